@@ -1,0 +1,4 @@
+pub mod Lexical
+pub mod Alike
+pub mod Climbs
+pub mod Firsts

@@ -1,0 +1,5 @@
+pub mod Ranges
+pub mod Orders
+pub mod Kinds
+pub mod Rosters
+pub mod Faults
