@@ -13,5 +13,6 @@ pub use kinds::CodeStep;
 pub use kinds::NameStep;
 pub use kinds::Step;
 pub use names::Name;
+pub use names::NameDisplay;
 pub use orders::Order;
 pub use rosters::Roster;

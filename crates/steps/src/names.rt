@@ -3,7 +3,10 @@ ghost use mathlib.Core.Bool.{true};
 ghost use Prim.Native.Nat.{_≤_, _-_};
 ghost use lib.ListN.{length, take, drop, replicate};
 ghost use Rattle.std.specs.Options.{Cases as BySome};
+ghost use Rattle.std.specs.declared.option.Option.the-variants.{Some};
 ghost use Rattle.steps.specs.Ranges.{IsName, nameByte, nameBytes};
+use std::fmt;
+use std::str;
 
 // A step as later cards write it: 1 to 8 bytes of A to Z, 0 to 9 and underscore. The bytes past the text are 0.
 #[derive(Clone, Copy, Debug)]
@@ -65,5 +68,17 @@ impl Name {
         ensures { λ r. ⌜ now r ≡ take (now (self .entry) .len) (now (self .entry) .bytes) ⌝ ∗ ⌜ IsName (now r) ⌝ }
     {
         &self.bytes[0..self.len as usize]
+    }
+}
+
+// The text of the name.
+pub impl fmt::Display for Name as NameDisplay {
+    ghost shown = { λ n. Some (take (n .len) (n .bytes)) };
+
+    fn fmt<W: fmt::Write>(&self, f: &mut fmt::Formatter<W>) -> fmt::Result {
+        match str::from_utf8(self.text()) {
+            Ok(text) => f.write_str(text),
+            Err(_) => Err(fmt::Error),
+        }
     }
 }
