@@ -2,3 +2,4 @@ pub mod Lexical
 pub mod Alike
 pub mod Climbs
 pub mod Firsts
+pub mod Naming

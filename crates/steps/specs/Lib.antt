@@ -3,3 +3,4 @@ pub mod Orders
 pub mod Kinds
 pub mod Rosters
 pub mod Faults
+pub mod Making

@@ -1,3 +1,4 @@
 pub mod Faults
 pub mod Jobs
 pub mod Erased
+pub mod Told

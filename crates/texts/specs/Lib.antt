@@ -1,0 +1,5 @@
+pub mod Tokens
+pub mod Scan
+pub mod Verdicts
+pub mod Sizes
+pub mod Reading
