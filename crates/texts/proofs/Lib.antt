@@ -1,3 +1,9 @@
 pub mod Runs
 pub mod Turns
 pub mod Sofar
+pub mod Bytes
+pub mod Written
+pub mod Sound
+pub mod Complete
+pub mod Stuck
+pub mod Understanding

@@ -32,9 +32,9 @@ use Rattle.texts.proofs.Turns.{is-letter, scan-letters, space-turn, line-turn,
 
 -- The line at `at` was read up to the offset i and has these names; either a name is due there, or the last of the names ends there
 abbrev pub Sofar : List ℕ → ℕ → ℕ → Bool → List Name → Type 0
-Sofar text at i true names = from text at ≡ scan (drop i text) i names []
+Sofar text at i true names = from text at ≡ scan 1000 (drop i text) i names []
 Sofar text at i false names =
-    (had : List Name) × (n : Name) × (names ≡ had ++ n ∷ []) × (from text at ≡ scan (drop i text) i had (nameText n))
+    (had : List Name) × (n : Name) × (names ≡ had ++ n ∷ []) × (from text at ≡ scan 1000 (drop i text) i had (nameText n))
     × (length (nameText n) < 8 → i < length text → nameByte (getD text i 0) ≡ false)
 
 -- where the line stands after a token that was read from i to j
@@ -69,7 +69,7 @@ module _ (text : List ℕ) (at i j : ℕ) (names : List Name) where
         (room,
          omega (arith, read .1, read .3),
          (names, n, refl,
-          s ∙ scan-letters 8 (drop i text) i names [] (omega arith) (inr room) ∙ ap (λ t. scan t (i + r) names (take r (drop i text))) rest ∙ ap (λ m. scan (drop j text) m names (take r (drop i text))) (sym (read .3)) ∙ ap (scan (drop j text) j names) (sym is),
+          s ∙ scan-letters 1000 8 (drop i text) i names [] (omega arith) (inr room) ∙ ap (λ t. scan 1000 t (i + r) names (take r (drop i text))) rest ∙ ap (λ m. scan 1000 (drop j text) m names (take r (drop i text))) (sym (read .3)) ∙ ap (scan 1000 (drop j text) j names) (sym is),
           λ short inside.
               let here : getD (drop i text) r 0 ≡ getD text j 0 = getD-drop i text r 0 ∙ ap (λ m. getD text m 0) (sym (read .3)) in
               ap nameByte (sym here) ∙ ran .longest (omega (arith, long, ap length is)) (omega (arith, length-drop i text, read .3))))
@@ -77,13 +77,13 @@ module _ (text : List ℕ) (at i j : ℕ) (names : List Name) where
     crowded : length names ≡ 1000 → Sofar text at i true names → from text at ≡ faulty JobSize i
     crowded full s =
         let start = run-starts text i 8 (read .1) in
-        s ∙ scan-at text i names [] letter (start .0) (is-letter (getD text i 0) (start .1)) ∙ cond-false (ltb (length names) 1000) _ _ (le-ltb (length names) 1000 (omega arith))
+        s ∙ scan-at 1000 text i names [] letter (start .0) (is-letter (getD text i 0) (start .1)) ∙ cond-false (ltb (length names) 1000) _ _ (le-ltb (length names) 1000 (omega arith))
 
     ninth : Sofar text at i false names → from text at ≡ faulty NinthByte i
     ninth (had, n, ends, s, longest) =
         let start = run-starts text i 8 (read .1) in
         let full : 8 ≤ length (nameText n) = ⊎-elim (λ short. absurd (differ (sym (start .1) ∙ longest short (start .0)))) (λ le. le) (cases-lt (length (nameText n)) 8) in
-        s ∙ scan-at text i had (nameText n) letter (start .0) (is-letter (getD text i 0) (start .1)) ∙ ninth-turn (getD text i 0) i had (nameText n) _ full
+        s ∙ scan-at 1000 text i had (nameText n) letter (start .0) (is-letter (getD text i 0) (start .1)) ∙ ninth-turn 1000 (getD text i 0) i had (nameText n) _ full
       where
         differ : true ≡ false → ⊥
         differ z = let o : _≡_ {A = ℕ} 0 1 = cc in omega arith
@@ -92,29 +92,29 @@ module _ (text : List ℕ) (at i j : ℕ) (names : List Name) where
   gapped : i < length text → byteOf (getD text i 0) ≡ space → j ≡ i + 1 → Sofar text at i false names → Outcome text at i j names Gap
   gapped h e next (had, n, ends, s, longest) =
       (omega arith,
-       s ∙ scan-at text i had (nameText n) space h e ∙ space-turn (getD text i 0) i had (nameText n) _ (n .lawful .2 .0)
-       ∙ ap (λ m. scan (drop m text) m (had ++ nameOf (nameText n) ∷ []) []) (sym next) ∙ ap (λ m. scan (drop j text) j (had ++ m ∷ []) []) (name-of-name n) ∙ ap (λ ns. scan (drop j text) j ns []) (sym ends))
+       s ∙ scan-at 1000 text i had (nameText n) space h e ∙ space-turn 1000 (getD text i 0) i had (nameText n) _ (n .lawful .2 .0)
+       ∙ ap (λ m. scan 1000 (drop m text) m (had ++ nameOf (nameText n) ∷ []) []) (sym next) ∙ ap (λ m. scan 1000 (drop j text) j (had ++ m ∷ []) []) (name-of-name n) ∙ ap (λ ns. scan 1000 (drop j text) j ns []) (sym ends))
 
   closed : i < length text → byteOf (getD text i 0) ≡ line-end → j ≡ i + 1 → Sofar text at i false names → Outcome text at i j names Close
   closed h e next (had, n, ends, s, longest) =
-      s ∙ scan-at text i had (nameText n) line-end h e ∙ line-turn (getD text i 0) i had (nameText n) _ (n .lawful .2 .0)
+      s ∙ scan-at 1000 text i had (nameText n) line-end h e ∙ line-turn 1000 (getD text i 0) i had (nameText n) _ (n .lawful .2 .0)
       ∙ ap (λ m. first (had ++ nameOf (nameText n) ∷ []) (from text m)) (sym next) ∙ ap (λ m. first (had ++ m ∷ []) (from text j)) (name-of-name n) ∙ ap (λ ns. first ns (from text j)) (sym ends)
 
   space-due : i < length text → byteOf (getD text i 0) ≡ space → Sofar text at i true names → from text at ≡ faulty NameDue i
-  space-due h e s = s ∙ scan-at text i names [] space h e
+  space-due h e s = s ∙ scan-at 1000 text i names [] space h e
 
   line-due : i < length text → byteOf (getD text i 0) ≡ line-end → Sofar text at i true names → from text at ≡ faulty NameDue i
-  line-due h e s = s ∙ scan-at text i names [] line-end h e
+  line-due h e s = s ∙ scan-at 1000 text i names [] line-end h e
 
   odd-byte : (due : Bool) → i < length text → byteOf (getD text i 0) ≡ odd → Sofar text at i due names → from text at ≡ faulty OddByte i
-  odd-byte true h e s = s ∙ scan-at text i names [] odd h e
-  odd-byte false h e (had, n, ends, s, longest) = s ∙ scan-at text i had (nameText n) odd h e
+  odd-byte true h e s = s ∙ scan-at 1000 text i names [] odd h e
+  odd-byte false h e (had, n, ends, s, longest) = s ∙ scan-at 1000 text i had (nameText n) odd h e
 
   cut-due : i ≡ length text → 1 ≤ length names → Sofar text at i true names → from text at ≡ faulty CutLine i
-  cut-due h some s = s ∙ scan-end text i names [] (omega arith) ∙ cut i names [] (inl some)
+  cut-due h some s = s ∙ scan-end 1000 text i names [] (omega arith) ∙ cut i names [] (inl some)
 
   cut-name : i ≡ length text → Sofar text at i false names → from text at ≡ faulty CutLine i
-  cut-name h (had, n, ends, s, longest) = s ∙ scan-end text i had (nameText n) (omega arith) ∙ cut i had (nameText n) (inr (n .lawful .2 .0))
+  cut-name h (had, n, ends, s, longest) = s ∙ scan-end 1000 text i had (nameText n) (omega arith) ∙ cut i had (nameText n) (inr (n .lawful .2 .0))
 
   -- the verdict on a token says where the line stands after it
   pub step : (t : Token) (due : Bool) (v : Verdict) → Read text i j t → length names ≤ 1000 → Judged t due (length names) v → Sofar text at i due names → Outcome text at i j names v
@@ -133,7 +133,7 @@ module _ (text : List ℕ) (at i j : ℕ) (names : List Name) where
   step (token.LineEnd k) false v read few judged s = subst (Outcome text at i j names) (sym judged) (closed (read .1) (read .2) (read .3) s)
   step (token.Odd k) due v read few judged s = faulted v OddByte k (read .0) judged (odd-byte due (read .1) (read .2) s)
   step (token.End k) true v read few judged s =
-      ⊎-elim (λ none. let e : length names ≡ 0 = omega arith in subst (Outcome text at i j names) (sym (judged .0 e)) (s ∙ scan-end text i names [] (omega (arith, read .1)) ∙ nothing names e)) (λ some. faulted v CutLine k (read .0) (judged .1 some) (cut-due (read .1) some s)) (cases-lt (length names) 1)
+      ⊎-elim (λ none. let e : length names ≡ 0 = omega arith in subst (Outcome text at i j names) (sym (judged .0 e)) (s ∙ scan-end 1000 text i names [] (omega (arith, read .1)) ∙ nothing names e)) (λ some. faulted v CutLine k (read .0) (judged .1 some) (cut-due (read .1) some s)) (cases-lt (length names) 1)
     where
       nothing : (ns : List Name) → length ns ≡ 0 → stop i ns [] ≡ ended
       nothing [] e = refl

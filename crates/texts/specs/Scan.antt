@@ -15,15 +15,15 @@ use Rattle.trails.specs.Told.{Told, faulty, ended, first}
 use Rattle.texts.specs.declared.verdicts.Line.{Line}
 use Rattle.texts.specs.Tokens.{Byte, letter, space, line-end, odd, byteOf}
 
--- The byte b at the offset i, in a line of which those in `had` are whole names and the bytes in `tail` begin one more; k is what follows
-abbrev pub turn : Byte → ℕ → ℕ → List Name → List ℕ → (List Name → List ℕ → Told Name) → Told Name
-turn letter b i had [] k = cond (ltb (length had) 1000) (k had (b ∷ [])) (faulty JobSize i)
-turn letter b i had (t ∷ ts) k = cond (ltb (length (t ∷ ts)) 8) (k had ((t ∷ ts) ++ b ∷ [])) (faulty NinthByte i)
-turn space b i had [] k = faulty NameDue i
-turn space b i had (t ∷ ts) k = k (had ++ nameOf (t ∷ ts) ∷ []) []
-turn line-end b i had [] k = faulty NameDue i
-turn line-end b i had (t ∷ ts) k = first (had ++ nameOf (t ∷ ts) ∷ []) (k [] [])
-turn odd b i had tail k = faulty OddByte i
+-- The byte b at the offset i, where a line may have so many names at most, in a line of which those in `had` are whole names and the bytes in `tail` begin one more; k is what follows
+abbrev pub turn : ℕ → Byte → ℕ → ℕ → List Name → List ℕ → (List Name → List ℕ → Told Name) → Told Name
+turn most letter b i had [] k = cond (ltb (length had) most) (k had (b ∷ [])) (faulty JobSize i)
+turn most letter b i had (t ∷ ts) k = cond (ltb (length (t ∷ ts)) 8) (k had ((t ∷ ts) ++ b ∷ [])) (faulty NinthByte i)
+turn most space b i had [] k = faulty NameDue i
+turn most space b i had (t ∷ ts) k = k (had ++ nameOf (t ∷ ts) ∷ []) []
+turn most line-end b i had [] k = faulty NameDue i
+turn most line-end b i had (t ∷ ts) k = first (had ++ nameOf (t ∷ ts) ∷ []) (k [] [])
+turn most odd b i had tail k = faulty OddByte i
 
 -- no byte is left
 abbrev pub stop : ℕ → List Name → List ℕ → Told Name
@@ -31,13 +31,13 @@ stop i [] [] = ended
 stop i [] (t ∷ ts) = faulty CutLine i
 stop i (n ∷ ns) tail = faulty CutLine i
 
-unfoldable pub scan : List ℕ → ℕ → List Name → List ℕ → Told Name
-scan [] i had tail = stop i had tail
-scan (b ∷ bs) i had tail = turn (byteOf b) b i had tail (scan bs (i + 1))
+unfoldable pub scan : ℕ → List ℕ → ℕ → List Name → List ℕ → Told Name
+scan most [] i had tail = stop i had tail
+scan most (b ∷ bs) i had tail = turn most (byteOf b) b i had tail (scan most bs (i + 1))
 
--- what a text says from an offset on at which a line begins
+-- what a text says from an offset on at which a line begins; a line has at most 1,000 names
 abbrev pub from : List ℕ → ℕ → Told Name
-from text i = scan (drop i text) i [] []
+from text i = scan 1000 (drop i text) i [] []
 
 -- what reading one line at an offset answers, with v the work memory after it
 abbrev pub GivesLine : List ℕ → ℕ → List Name → Result Line Ending → Type 0

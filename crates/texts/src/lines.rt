@@ -3,6 +3,7 @@ ghost use Prim.Native.Nat.{_≤_};
 ghost use lib.ListN.{length};
 ghost use denote.Ref.{now as held};
 ghost use Rattle.texts.specs.Scan.{from, GivesLine};
+ghost use Rattle.texts.specs.Reading.{Understood};
 ghost use Rattle.texts.specs.Sizes.{from-lawful};
 use crate::judging::judge;
 use crate::lexers::Lexer;
@@ -35,6 +36,24 @@ fn read_line(text: &[u8], at: usize, work: &mut [Name]) -> Result<Line, Ending>
             Verdict::Close => return Ok(Line { len, after: lexer.offset() }),
             Verdict::Stop(ending) => return Err(ending),
         }
+    }
+}
+
+// The text itself, of which is known how it reads.
+fn understood(text: &[u8]) -> &[u8]
+    ensures same { λ r. ⌜ now r ≡ now (text .entry) ⌝ }
+    ensures reading { λ _. ⌜ Understood (now (text .entry)) (from (now (text .entry)) 0 .jobs) (from (now (text .entry)) 0 .ending) ⌝ }
+{
+    text
+}
+
+impl<'a> TextTrail<'a> {
+    // The trail of a text: `from` its start.
+    pub fn new(text: &'a [u8]) -> TextTrail<'a>
+        ensures made { λ r. ⌜ (now (r .text) ≡ now (text .entry)) × (r .at ≡ 0) ⌝ }
+        ensures reading { λ _. ⌜ Understood (now (text .entry)) (from (now (text .entry)) 0 .jobs) (from (now (text .entry)) 0 .ending) ⌝ }
+    {
+        TextTrail { text: understood(text), at: 0 }
     }
 }
 

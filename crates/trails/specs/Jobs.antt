@@ -9,10 +9,14 @@ use Rattle.trails.specs.declared.endings.Ending.{Ending}
 use Rattle.trails.specs.declared.endings.TrailStop.{TrailStop}
 use Rattle.trails.specs.declared.endings.TrailStop.the-variants.{ShortWork, Ended}
 
+-- each job has 1 event at least and so many at most
+abbrev pub SizedTo : {S : Type 0} → ℕ → List (List S) → Type 0
+SizedTo most [] = Unit {0}
+SizedTo most (j ∷ js) = (1 ≤ length j) × (length j ≤ most) × SizedTo most js
+
 -- each job has 1 to 1,000 events
 abbrev pub Sized : {S : Type 0} → List (List S) → Type 0
-Sized [] = Unit {0}
-Sized (j ∷ js) = (1 ≤ length j) × (length j ≤ 1000) × Sized js
+Sized js = SizedTo 1000 js
 
 -- what the jobs of every trail are
 abbrev pub Lawful : {S : Type 0} → List (List S) → Type 0

@@ -31,7 +31,7 @@ gone c =
 pub loop-name-holds : need.loop-name-holds
 loop-name-holds c =
     let start : c .args .at ≡ c .new-lexer .result .at = omega arith in
-    (omega arith, c .new-lexer .ensures .0, ap (λ i. scan (drop i (c .args .text .now)) i [] []) start)
+    (omega arith, c .new-lexer .ensures .0, ap (λ i. scan 1000 (drop i (c .args .text .now)) i [] []) start)
 
 pub judge-requires : need.judge-requires
 judge-requires c κs = (spelled-token _ _ _ (c .token .result) (c .token .ensures .0), c .loop-name .inv .0)
