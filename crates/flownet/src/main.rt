@@ -1,38 +1,30 @@
-// Reads a batch from standard input and gives an account of what can be said of it so far: the roster on its first line.
-use faults::LineFaultDisplay;
-use line::roster_line;
+// Reads a batch from standard input and gives an account of what can be said of it so far: its roster, the lengths of its
+// jobs, and how it ended.
+use account::LONGEST_TEXT;
+use account::print_account;
+use reasons::reason;
+use refusals::RefusalDisplay;
 use std::error::AnyError;
-use std::io;
 use std::io::Read;
 use steps::Name;
-use steps::NameDisplay;
 
-mod faults;
-mod line;
-
-// One byte more than the longest text that is taken, so that a longer one is seen.
-const READ_AT_MOST: u64 = 65_537;
-
-fn print_roster(rt: &LibcRuntime, names: &[Name]) -> io::Result<()> {
-    let count = names.len();
-    println!(rt, "strictly ascending, steps: {count}")?;
-    for (number, name) in names.iter().enumerate() {
-        println!(rt, "{number} {name}")?;
-    }
-    Ok(())
-}
+mod account;
+mod reasons;
 
 fn main(rt: LibcRuntime) -> Result<(), AnyError> {
+    // One byte past the longest text is enough to see that there is more.
     let mut text = Vec::new(rt.alloc());
-    rt.stdin().take(READ_AT_MOST).read_to_end(&mut text)?;
-    match roster_line(rt.alloc(), text.as_slice()) {
-        Ok(names) => {
-            print_roster(&rt, names.as_slice())?;
-            Ok(())
-        }
-        Err(fault) => {
-            eprintln!(rt, "flownet: {fault}")?;
-            Err("the input is refused".into())
-        }
-    }
+    rt.stdin()
+        .take(LONGEST_TEXT as u64 + 1)
+        .read_to_end(&mut text)?;
+    let Some(tick) = Name::new(b"TICK") else {
+        return Err("TICK is no name".into());
+    };
+    let Some(refusal) = print_account(&rt, text.as_slice(), tick)? else {
+        return Ok(());
+    };
+    let why = reason(&refusal);
+    println!(rt, "{refusal}")?;
+    eprintln!(rt, "flownet: {why}")?;
+    Err(why.into())
 }

@@ -1,4 +1,5 @@
 // What a call that declines says of it: five numbers, the same for every layer.
+ghost use mathlib.Core.Path.{_≡_};
 ghost use mathlib.Core.List.{_++_};
 ghost use lib.Chars.{codes};
 ghost use Rattle.std.specs.declared.option.Option.the-variants.{Some};
@@ -15,6 +16,15 @@ pub struct Refusal {
     pub job: u64,
     pub place: usize,
     pub cause: u8,
+}
+
+impl Refusal {
+    // The same refusal, of the job with this number.
+    pub fn at_job(self, job: u64) -> Refusal
+        ensures { λ r. ⌜ r ≡ record { row = self .row; layer = self .layer; job = job; place = self .place; cause = self .cause } ⌝ }
+    {
+        Refusal { job, ..self }
+    }
 }
 
 pub impl fmt::Display for Refusal as RefusalDisplay {

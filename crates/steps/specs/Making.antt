@@ -26,10 +26,12 @@ abbrev pub named : (bs : List ℕ) → IsName bs → Name
 named bs h = record {
   bytes = bs ++ replicate (8 - length bs) 0;
   len = length bs;
-  lawful = (length-append bs (replicate (8 - length bs) 0) ∙ ap (λ n. length bs + n) (length-replicate (8 - length bs) 0) ∙ omega arith,
-            h .1,
-            subst IsName (sym (take-at bs (replicate (8 - length bs) 0) (length bs) refl)) h,
-            drop-at bs (replicate (8 - length bs) 0) (length bs) refl)
+  lawful = (
+    length-append bs (replicate (8 - length bs) 0) ∙ ap (λ n. length bs + n) (length-replicate (8 - length bs) 0) ∙ omega arith,
+    h .1,
+    subst IsName (sym (take-at bs (replicate (8 - length bs) 0) (length bs) refl)) h,
+    drop-at bs (replicate (8 - length bs) 0) (length bs) refl,
+  );
 }
 
 abbrev pub chosen : (bs : List ℕ) (b : Bool) → isName bs ≡ b → Name

@@ -93,7 +93,7 @@ module _ (most : ℕ) where
 
   -- jobs written out and a line begun
   begun-run : (js : List (List Name)) (names : List Name) (tail q : List ℕ) → SizedTo most js → Fits most names tail → length tail ≤ 8 → nameBytes tail ≡ true
-    → scan most ((written js ++ (spaced names ++ tail)) ++ q) 0 [] [] ≡ after js (scan most q (length (written js ++ (spaced names ++ tail))) names tail)
+      → scan most ((written js ++ (spaced names ++ tail)) ++ q) 0 [] [] ≡ after js (scan most q (length (written js ++ (spaced names ++ tail))) names tail)
   begun-run js names tail q s f short named =
       let p = length (written js) in
       let place : 0 + p + length (spaced names) + length tail ≡ length (written js ++ (spaced names ++ tail)) = omega (arith, length-append (written js) (spaced names ++ tail), length-append (spaced names) tail) in

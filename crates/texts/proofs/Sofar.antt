@@ -65,14 +65,19 @@ module _ (text : List ℕ) (at i j : ℕ) (names : List Name) where
         let r = run 8 (drop i text) in
         let is : nameText n ≡ take r (drop i text) = e ∙ read .2 in
         let long : length (take r (drop i text)) ≡ r = length-take-le r (drop i text) (ran .within) in
-        let rest : drop r (drop i text) ≡ drop j text = drop-drop r i text ∙ ap (λ m. drop m text) (sym (read .3)) in
-        (room,
-         omega (arith, read .1, read .3),
-         (names, n, refl,
-          s ∙ scan-letters 1000 8 (drop i text) i names [] (omega arith) (inr room) ∙ ap (λ t. scan 1000 t (i + r) names (take r (drop i text))) rest ∙ ap (λ m. scan 1000 (drop j text) m names (take r (drop i text))) (sym (read .3)) ∙ ap (scan 1000 (drop j text) j names) (sym is),
-          λ short inside.
-              let here : getD (drop i text) r 0 ≡ getD text j 0 = getD-drop i text r 0 ∙ ap (λ m. getD text m 0) (sym (read .3)) in
-              ap nameByte (sym here) ∙ ran .longest (omega (arith, long, ap length is)) (omega (arith, length-drop i text, read .3))))
+        let rest : drop r (drop i text) ≡ drop j text = drop-drop r i text ∙ ap (λ m. drop m text) (sym (read .3)) in (
+          room,
+          omega (arith, read .1, read .3),
+          (
+            names,
+            n,
+            refl,
+            s ∙ scan-letters 1000 8 (drop i text) i names [] (omega arith) (inr room) ∙ ap (λ t. scan 1000 t (i + r) names (take r (drop i text))) rest ∙ ap (λ m. scan 1000 (drop j text) m names (take r (drop i text))) (sym (read .3)) ∙ ap (scan 1000 (drop j text) j names) (sym is),
+            λ short inside.
+                let here : getD (drop i text) r 0 ≡ getD text j 0 = getD-drop i text r 0 ∙ ap (λ m. getD text m 0) (sym (read .3)) in
+                ap nameByte (sym here) ∙ ran .longest (omega (arith, long, ap length is)) (omega (arith, length-drop i text, read .3)),
+          ),
+        )
 
     crowded : length names ≡ 1000 → Sofar text at i true names → from text at ≡ faulty JobSize i
     crowded full s =
@@ -90,10 +95,11 @@ module _ (text : List ℕ) (at i j : ℕ) (names : List Name) where
 
   -- a space or a line end after a name, or where one is due
   gapped : i < length text → byteOf (getD text i 0) ≡ space → j ≡ i + 1 → Sofar text at i false names → Outcome text at i j names Gap
-  gapped h e next (had, n, ends, s, longest) =
-      (omega arith,
-       s ∙ scan-at 1000 text i had (nameText n) space h e ∙ space-turn 1000 (getD text i 0) i had (nameText n) _ (n .lawful .2 .0)
-       ∙ ap (λ m. scan 1000 (drop m text) m (had ++ nameOf (nameText n) ∷ []) []) (sym next) ∙ ap (λ m. scan 1000 (drop j text) j (had ++ m ∷ []) []) (name-of-name n) ∙ ap (λ ns. scan 1000 (drop j text) j ns []) (sym ends))
+  gapped h e next (had, n, ends, s, longest) = (
+    omega arith,
+    s ∙ scan-at 1000 text i had (nameText n) space h e ∙ space-turn 1000 (getD text i 0) i had (nameText n) _ (n .lawful .2 .0)
+        ∙ ap (λ m. scan 1000 (drop m text) m (had ++ nameOf (nameText n) ∷ []) []) (sym next) ∙ ap (λ m. scan 1000 (drop j text) j (had ++ m ∷ []) []) (name-of-name n) ∙ ap (λ ns. scan 1000 (drop j text) j ns []) (sym ends),
+  )
 
   closed : i < length text → byteOf (getD text i 0) ≡ line-end → j ≡ i + 1 → Sofar text at i false names → Outcome text at i j names Close
   closed h e next (had, n, ends, s, longest) =

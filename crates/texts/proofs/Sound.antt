@@ -19,12 +19,13 @@ use Rattle.trails.specs.declared.endings.Cause.the-variants.{JobSize, OddByte, 
 use Rattle.trails.specs.declared.endings.Ending.{Ending}
 use Rattle.trails.specs.Jobs.{SizedTo}
 use Rattle.trails.specs.Told.{Told, faulty, ended, first, after}
+use Rattle.trails.proofs.Sizes.{sized-push}
 use Rattle.texts.specs.Tokens.{Byte, letter, space, line-end, odd, byteOf}
 use Rattle.texts.specs.Scan.{turn, stop, scan}
 use Rattle.texts.specs.Sizes.{Fits}
 use Rattle.texts.specs.Reading.{spaced, line, written, Reached, Stands, ReadingTo}
 use Rattle.texts.proofs.Bytes.{letter-is, space-is, line-end-is, name-bytes-push}
-use Rattle.texts.proofs.Written.{spaced-push, line-push, written-push, sized-push}
+use Rattle.texts.proofs.Written.{spaced-push, line-push, written-push}
 
 -- the bytes p are these jobs written out, and of one line more these names and the first bytes of another
 record State (most : ℕ) (p : List ℕ) (js : List (List Name)) (had : List Name) (tail : List ℕ) : Type 0 where
@@ -110,7 +111,7 @@ module _ (most : ℕ) where
 
   -- one byte
   turn-sound : (p bs : List ℕ) (b : ℕ) (js : List (List Name)) (had : List Name) (tail : List ℕ) (s : State most p js had tail) (y : Byte) → byteOf b ≡ y → Onward p bs b js had tail s
-    → Reads most (p ++ b ∷ bs) js (turn most y b (length p) had tail (scan most bs (length p + 1)))
+      → Reads most (p ++ b ∷ bs) js (turn most y b (length p) had tail (scan most bs (length p + 1)))
   turn-sound p bs b js had [] s letter e on =
       cond-both (ltb (length had) most) _ _ (Reads most (p ++ b ∷ bs) js)
       (λ r. on js had (b ∷ []) (letter-state p bs b js had [] s (letter-is b e) (omega arith) (ltb-true (length had) most r)))
@@ -144,8 +145,8 @@ module _ (most : ℕ) where
   scan-sound [] p js had tail s = subst (λ q. Reads most q js (stop (length p) had tail)) (sym (append-nil p)) (stop-sound p js had tail s)
   scan-sound (b ∷ bs) p js had tail s =
       turn-sound p bs b js had tail s (byteOf b) refl (λ ks h t st.
-        subst (λ q. Reads most q ks (scan most bs (length p + 1) h t)) (append-assoc p (b ∷ []) bs)
-        (subst (λ m. Reads most ((p ++ b ∷ []) ++ bs) ks (scan most bs m h t)) (length-push p b) (scan-sound bs (p ++ b ∷ []) ks h t st)))
+      subst (λ q. Reads most q ks (scan most bs (length p + 1) h t)) (append-assoc p (b ∷ []) bs)
+      (subst (λ m. Reads most ((p ++ b ∷ []) ++ bs) ks (scan most bs m h t)) (length-push p b) (scan-sound bs (p ++ b ∷ []) ks h t st)))
 
   pub sound : (text : List ℕ) → ReadingTo most text (scan most text 0 [] [] .jobs) (scan most text 0 [] [] .ending)
   sound text = scan-sound text [] [] [] [] (record { sized = tt; is = refl; fits = (omega arith, λ z. absurd (omega arith)); short = omega arith; named = refl })

@@ -16,10 +16,11 @@ use Rattle.trails.specs.declared.endings.Ending.{Ending}
 use Rattle.trails.specs.declared.endings.Ending.the-variants.{End, Fault}
 use Rattle.trails.specs.declared.endings.TrailFault.{TrailFault}
 use Rattle.trails.specs.Jobs.{Sized, SizedTo}
+use Rattle.trails.proofs.Sizes.{sized-push, sized-more}
 use Rattle.texts.specs.Tokens.{byteOf, letter}
 use Rattle.texts.specs.Sizes.{Fits}
 use Rattle.texts.specs.Reading.{spaced, line, written, Reached, Stands, ReadingTo, Reading, Viable, FirstStuck}
-use Rattle.texts.proofs.Written.{line-push, written-push, sized-push, sized-more}
+use Rattle.texts.proofs.Written.{line-push, written-push}
 use Rattle.texts.proofs.Complete.{complete}
 
 -- a text does not end both ways
@@ -50,17 +51,19 @@ module _ (text other : List ℕ) (i : ℕ) (inside : i < length text) (within : 
   stands-too most EndBits names tail limit none = absurd none
 
   reads-too : (most : ℕ) (c : Cause) (js : List (List Name)) → 1000 ≤ most → (c ≡ JobSize → most ≡ 1000) → Reading text js (Fault (record { cause = c; place = i })) → ReadingTo most other js (Fault (record { cause = c; place = i }))
-  reads-too most c js more limit (names, tail, r, stands) =
-      (names, tail,
-       record {
-         sized = sized-more 1000 most js more (r .sized);
-         within = omega arith;
-         up-to = same-front ∙ r .up-to;
-         fits = (omega (arith, r .fits .0), λ some. omega (arith, r .fits .1 some));
-         short = r .short;
-         named = r .named;
-       },
-       stands-too most c names tail limit stands)
+  reads-too most c js more limit (names, tail, r, stands) = (
+    names,
+    tail,
+    record {
+      sized = sized-more 1000 most js more (r .sized);
+      within = omega arith;
+      up-to = same-front ∙ r .up-to;
+      fits = (omega (arith, r .fits .0), λ some. omega (arith, r .fits .1 some));
+      short = r .short;
+      named = r .named;
+    },
+    stands-too most c names tail limit stands,
+  )
 
 -- a line that is begun can be ended
 viable : (text : List ℕ) (i : ℕ) (js : List (List Name)) (names : List Name) (tail : List ℕ) → Reached 1000 text i js names tail → Viable (take i text)
@@ -69,10 +72,10 @@ viable text i js names tail r = by tail r
     ends : (t u : List ℕ) (n : Name) → Reached 1000 text i js names t → nameText n ≡ t ++ u → Viable (take i text)
     ends t u n s e =
         let whole : take i text ++ (u ++ (10 ∷ [])) ≡ written (js ++ (names ++ n ∷ []) ∷ []) =
-              ap (λ x. x ++ (u ++ (10 ∷ []))) (s .up-to)
-              ∙ append-assoc (written js) (spaced names ++ t) (u ++ (10 ∷ []))
-              ∙ ap (λ x. written js ++ x) (append-assoc (spaced names) t (u ++ (10 ∷ [])) ∙ ap (λ x. spaced names ++ x) (sym (append-assoc t u (10 ∷ [])) ∙ ap (λ x. x ++ (10 ∷ [])) (sym e)) ∙ sym (line-push names n))
-              ∙ sym (written-push js (names ++ n ∷ [])) in
+        ap (λ x. x ++ (u ++ (10 ∷ []))) (s .up-to)
+        ∙ append-assoc (written js) (spaced names ++ t) (u ++ (10 ∷ []))
+        ∙ ap (λ x. written js ++ x) (append-assoc (spaced names) t (u ++ (10 ∷ [])) ∙ ap (λ x. spaced names ++ x) (sym (append-assoc t u (10 ∷ [])) ∙ ap (λ x. x ++ (10 ∷ [])) (sym e)) ∙ sym (line-push names n))
+        ∙ sym (written-push js (names ++ n ∷ [])) in
         let long : length (names ++ n ∷ []) ≡ length names + 1 = length-push names n in
         (1001, u ++ (10 ∷ []), js ++ (names ++ n ∷ []) ∷ [], sized-push 1001 js (names ++ n ∷ []) (sized-more 1000 1001 js (omega arith) (s .sized)) (omega arith) (omega (arith, s .fits .0)), whole)
 
@@ -86,13 +89,13 @@ first-stuck text js f r = record {
   stuck = λ inside other (most, more, ks, s, is).
       let e = front inside more in
       not-both (most + 1000) (take (f .place + 1) text ++ more) js ks f
-        (reads-too text (take (f .place + 1) text ++ more) (f .place) inside (omega (arith, ap length e, length-take-le (f .place + 1) text (omega arith), length-append (take (f .place + 1) text) more)) e (most + 1000) (f .cause) js (omega arith) (λ z. absurd (other z)) r)
-        (sized-more most (most + 1000) ks (omega arith) s, is);
+      (reads-too text (take (f .place + 1) text ++ more) (f .place) inside (omega (arith, ap length e, length-take-le (f .place + 1) text (omega arith), length-append (take (f .place + 1) text) more)) e (most + 1000) (f .cause) js (omega arith) (λ z. absurd (other z)) r)
+      (sized-more most (most + 1000) ks (omega arith) s, is);
   crowded = λ inside more ks s is.
       let e = front inside more in
       not-both 1000 (take (f .place + 1) text ++ more) js ks f
-        (reads-too text (take (f .place + 1) text ++ more) (f .place) inside (omega (arith, ap length e, length-take-le (f .place + 1) text (omega arith), length-append (take (f .place + 1) text) more)) e 1000 (f .cause) js (omega arith) (λ z. refl) r)
-        (s, is);
+      (reads-too text (take (f .place + 1) text ++ more) (f .place) inside (omega (arith, ap length e, length-take-le (f .place + 1) text (omega arith), length-append (take (f .place + 1) text) more)) e 1000 (f .cause) js (omega arith) (λ z. refl) r)
+      (s, is);
   unlawful = λ ks s is. not-both 1000 text js ks f r (s, is);
 }
   where

@@ -37,15 +37,15 @@ none-taken most bs i had tail = ap (λ j. scan most bs j had tail) (sym (add-zer
 
 -- a run of name bytes goes to the name that is begun
 pub scan-letters : (most : ℕ) (m : ℕ) (bs : List ℕ) (i : ℕ) (had : List Name) (tail : List ℕ) → length tail + m ≤ 8 → (1 ≤ length tail) ⊎ (length had < most)
-  → scan most bs i had tail ≡ scan most (drop (run m bs) bs) (i + run m bs) had (tail ++ take (run m bs) bs)
+    → scan most bs i had tail ≡ scan most (drop (run m bs) bs) (i + run m bs) had (tail ++ take (run m bs) bs)
 unfolding scan
 scan-letters most zero bs i had tail h room = none-taken most bs i had tail
 scan-letters most (suc m) [] i had tail h room = none-taken most [] i had tail
 scan-letters most (suc m) (b ∷ bs) i had tail h room = by (nameByte b) refl (scan-letters most m bs (i + 1) had (tail ++ b ∷ []))
   where
     by : (x : Bool) → nameByte b ≡ x
-      → (length (tail ++ b ∷ []) + m ≤ 8 → (1 ≤ length (tail ++ b ∷ [])) ⊎ (length had < most) → scan most bs (i + 1) had (tail ++ b ∷ []) ≡ scan most (drop (run m bs) bs) (i + 1 + run m bs) had ((tail ++ b ∷ []) ++ take (run m bs) bs))
-      → scan most (b ∷ bs) i had tail ≡ scan most (drop (cond x (suc (run m bs)) 0) (b ∷ bs)) (i + cond x (suc (run m bs)) 0) had (tail ++ take (cond x (suc (run m bs)) 0) (b ∷ bs))
+        → (length (tail ++ b ∷ []) + m ≤ 8 → (1 ≤ length (tail ++ b ∷ [])) ⊎ (length had < most) → scan most bs (i + 1) had (tail ++ b ∷ []) ≡ scan most (drop (run m bs) bs) (i + 1 + run m bs) had ((tail ++ b ∷ []) ++ take (run m bs) bs))
+        → scan most (b ∷ bs) i had tail ≡ scan most (drop (cond x (suc (run m bs)) 0) (b ∷ bs)) (i + cond x (suc (run m bs)) 0) had (tail ++ take (cond x (suc (run m bs)) 0) (b ∷ bs))
     by true e more =
         let long : length (tail ++ b ∷ []) ≡ length tail + 1 = length-push tail b in
         let place : i + 1 + run m bs ≡ i + suc (run m bs) = omega arith in

@@ -35,11 +35,14 @@ impl<'a> Lexer<'a> {
     pub fn new(text: &'a [u8], at: usize) -> Lexer<'a>
         ensures { λ r. ⌜ (now (r .text) ≡ now (text .entry)) × (r .at ≡ min at (length (now (text .entry)))) ⌝ }
     {
-        Lexer { text, at: at.min(text.len()) }
+        Lexer {
+            text,
+            at: at.min(text.len()),
+        }
     }
 
     // How far it has read.
-    pub fn offset(&self) -> usize
+    pub(crate) fn offset(&self) -> usize
         ensures { λ r. ⌜ (r ≡ now (self .entry) .at) × (r ≤ length (now (now (self .entry) .text))) ⌝ }
     {
         self.at
@@ -55,7 +58,10 @@ impl<'a> Lexer<'a> {
         let n = run_len(text, at);
         if n > 0 {
             self.at = at + n;
-            return Token::Name { at, bytes: &text[at..at + n] };
+            return Token::Name {
+                at,
+                bytes: &text[at..at + n],
+            };
         }
         if at == text.len() {
             return Token::End { at };

@@ -33,7 +33,10 @@ fn read_line(text: &[u8], at: usize, work: &mut [Name]) -> Result<Line, Ending>
                 due = false;
             }
             Verdict::Gap => due = true,
-            Verdict::Close => return Ok(Line { len, after: lexer.offset() }),
+            Verdict::Close => return Ok(Line {
+                len,
+                after: lexer.offset(),
+            }),
             Verdict::Stop(ending) => return Err(ending),
         }
     }
@@ -53,7 +56,10 @@ impl<'a> TextTrail<'a> {
         ensures made { λ r. ⌜ (now (r .text) ≡ now (text .entry)) × (r .at ≡ 0) ⌝ }
         ensures reading { λ _. ⌜ Understood (now (text .entry)) (from (now (text .entry)) 0 .jobs) (from (now (text .entry)) 0 .ending) ⌝ }
     {
-        TextTrail { text: understood(text), at: 0 }
+        TextTrail {
+            text: understood(text),
+            at: 0,
+        }
     }
 }
 

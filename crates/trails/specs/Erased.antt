@@ -2,10 +2,15 @@
 use mathlib.Core.List.{List, [], _∷_, map}
 use Prim.Native.Nat.{ℕ, _+_, _<_, _≤_, _^_}
 use native.Mathlib.Omega.{arith}
-use lib.ListN.{length}
+use lib.ListN.{length, take}
+use mathlib.Core.Path.{_≡_}
+use Rattle.std.specs.declared.result.Result.{Result}
+use Rattle.std.specs.declared.result.Result.the-variants.{Ok, Err}
 use Rattle.steps.specs.declared.orders.Order.{Order}
 use Rattle.steps.specs.declared.orders.Order.the-variants.{Before, Same, After}
-use Rattle.trails.specs.Jobs.{Sized, Lawful}
+use Rattle.trails.specs.declared.endings.Ending.{Ending}
+use Rattle.trails.specs.declared.endings.TrailStop.{TrailStop}
+use Rattle.trails.specs.Jobs.{Sized, Lawful, Next}
 
 -- x ahead of xs, unless it is the same as the step that is erased
 abbrev pub unless-same : {S : Type 0} → Order → S → List S → List S
@@ -31,6 +36,11 @@ filled (j ∷ js) = unless-empty j (filled js)
 -- the step e taken out of every job, and emptied jobs dropped
 abbrev pub erased : {S : Type 0} → (S → S → Order) → S → List (List S) → List (List S)
 erased order e js = filled (map (without order e) js)
+
+-- The next job below without the step: as `Next`, but that the job j below stands without e at the start of the work memory, where it may be empty
+abbrev pub ErasedNext : {S : Type 0} → (S → S → Order) → S → List (List S) → Ending → List (List S) → Ending → List S → List S → Result ℕ TrailStop → Type 0
+ErasedNext {S} order e js x ks y w v (Ok n) = (1000 ≤ length w) × (n ≤ 1000) × ((j : List S) × (js ≡ j ∷ ks) × (take n v ≡ without order e j)) × (y ≡ x)
+ErasedNext order e js x ks y w v (Err stop) = Next js x ks y w v (Err stop)
 
 -- lawful jobs stay lawful
 module _ {S : Type 0} (order : S → S → Order) (e : S) where

@@ -9,11 +9,15 @@ pub record Told (S : Type 0) : Type 0 where
   pub jobs : List (List S)
   pub ending : Ending
 
-abbrev pub faulty : {S : Type 0} → Cause → ℕ → Told S
-faulty cause place = record { jobs = []; ending = Fault (record { cause = cause; place = place }) }
+-- no job more
+abbrev pub over : {S : Type 0} → Ending → Told S
+over e = record { jobs = []; ending = e }
 
 abbrev pub ended : {S : Type 0} → Told S
-ended = record { jobs = []; ending = End }
+ended = over End
+
+abbrev pub faulty : {S : Type 0} → Cause → ℕ → Told S
+faulty cause place = over (Fault (record { cause = cause; place = place }))
 
 -- a job ahead of what is told
 abbrev pub first : {S : Type 0} → List S → Told S → Told S

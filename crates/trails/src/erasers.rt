@@ -1,7 +1,7 @@
 ghost use mathlib.Core.Path.{_≡_};
 ghost use lib.ListN.{length, take};
 ghost use Prim.Native.Nat.{_≤_};
-ghost use Rattle.trails.specs.Erased.{erased, without, erased-lawful};
+ghost use Rattle.trails.specs.Erased.{erased, without, erased-lawful, ErasedNext};
 use crate::endings::TrailStop;
 use crate::sources::Trail;
 use steps::Order;
@@ -41,6 +41,19 @@ fn take_out<S: Step>(work: &mut [S], n: usize, step: &S) -> usize
     left
 }
 
+// The next job below without the step, which may leave none of it.
+fn erase_next<T: Trail>(
+    below: &mut T,
+    step: &T::Step,
+    work: &mut [T::Step],
+) -> Result<usize, TrailStop>
+    ensures { λ r. ⌜ ErasedNext (Step·Step .order) (now (step .entry)) (T·Trail .jobs (now (below .entry))) (T·Trail .ending (now (below .entry))) (T·Trail .jobs (now (below .exit))) (T·Trail .ending (now (below .exit))) (now (work .entry)) (now (work .exit)) r ⌝ }
+{
+    let n = below.next(work)?;
+    let left = take_out(work, n, step);
+    Ok(left)
+}
+
 pub impl<T: Trail> Trail for Eraser<T> as EraserTrail {
     type Step = T::Step;
 
@@ -52,8 +65,7 @@ pub impl<T: Trail> Trail for Eraser<T> as EraserTrail {
 
     fn next(&mut self, work: &mut [T::Step]) -> Result<usize, TrailStop> {
         loop {
-            let n = self.below.next(work)?;
-            let left = take_out(work, n, &self.step);
+            let left = erase_next(&mut self.below, &self.step, work)?;
             if left > 0 {
                 return Ok(left);
             }

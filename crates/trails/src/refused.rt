@@ -29,7 +29,13 @@ impl TrailFault {
     pub fn refusal(&self) -> Refusal
         ensures { λ r. ⌜ r ≡ faultRefusal (now (self .entry)) ⌝ }
     {
-        Refusal { row: 8, layer: 1, job: 0, place: self.place, cause: self.cause.number() }
+        Refusal {
+            row: 8,
+            layer: 1,
+            job: 0,
+            place: self.place,
+            cause: self.cause.number(),
+        }
     }
 }
 
@@ -39,7 +45,13 @@ impl TrailStop {
         ensures { λ r. ⌜ r ≡ stopRefusal (now (self .entry)) ⌝ }
     {
         match *self {
-            TrailStop::ShortWork => Some(Refusal { row: 7, layer: 3, job: 0, place: 0, cause: 0 }),
+            TrailStop::ShortWork => Some(Refusal {
+                row: 7,
+                layer: 3,
+                job: 0,
+                place: 0,
+                cause: 0,
+            }),
             TrailStop::Ended(Ending::End) => None,
             TrailStop::Ended(Ending::Fault(fault)) => Some(fault.refusal()),
         }

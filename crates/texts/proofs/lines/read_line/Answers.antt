@@ -20,7 +20,7 @@ taken c =
     let j = c .token .last .self .at in
     let room : 1000 ≤ length (c .loop-name .work) = omega arith in
     took text was (c .args .at) i j (c .loop-name .len) (c .loop-name .work) (inv .1) (inv .0) room (c .in-Take .name)
-      (turned text was (c .args .at) i j (c .loop-name .len) (c .loop-name .work) (inv .1) (inv .0) room (c .token .result) (c .loop-name .due) (Take (c .in-Take .name)) (c .token .ensures .0) (c .in-Take .ensures tt) (inv .2))
+    (turned text was (c .args .at) i j (c .loop-name .len) (c .loop-name .work) (inv .1) (inv .0) room (c .token .result) (c .loop-name .due) (Take (c .in-Take .name)) (c .token .ensures .0) (c .in-Take .ensures tt) (inv .2))
 
 -- and after a space
 gone : (c : need.In-Gap) → Outcome (c .args .text .now) (c .args .at) (c .loop-name .lexer .at) (c .token .last .self .at) (take (c .loop-name .len) (c .loop-name .work)) Gap

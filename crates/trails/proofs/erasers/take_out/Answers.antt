@@ -17,12 +17,14 @@ loop-i-again g c =
     let level : length (l .work) ≡ length (c .args .work .now) = omega arith in
     let told = sym (c .compare .ensures) in
     elim (c .match-compare .came) [
-      need.in-Same w ↦
-        (omega arith,
-         rw (w .work-is, w .left-is) (same-more order e (c .args .work .now) (l .work) (l .i) (l .left) s (l .inv .1) (l .inv .2) (c .index-work-i .is) within level (told ∙ w .in-Same .is)),
-         rw (w .work-is) (rest-more order e (c .args .work .now) (l .work) (l .i) (l .left) s (l .inv .1) (l .inv .2) (c .index-work-i .is) within level))
-    | need.in-Before w ↦
-        (omega arith,
-         rw (w .work-is, w .left-is) (other-more order e (c .args .work .now) (l .work) (l .i) (l .left) s (l .inv .1) (l .inv .2) (c .index-work-i .is) within level (⊎-elim (λ b. inl (told ∙ b)) (λ a. inr (told ∙ a)) (w .in-Before .is)) (l .inv .0)),
-         rw (w .work-is) (rest-set order e (c .args .work .now) (l .work) (l .i) (l .left) s (l .inv .1) (l .inv .2) (c .index-work-i .is) within level (l .inv .0)))
+      | need.in-Same w ↦ (
+        omega arith,
+        rw (w .work-is, w .left-is) (same-more order e (c .args .work .now) (l .work) (l .i) (l .left) s (l .inv .1) (l .inv .2) (c .index-work-i .is) within level (told ∙ w .in-Same .is)),
+        rw (w .work-is) (rest-more order e (c .args .work .now) (l .work) (l .i) (l .left) s (l .inv .1) (l .inv .2) (c .index-work-i .is) within level),
+      )
+      | need.in-Before w ↦ (
+        omega arith,
+        rw (w .work-is, w .left-is) (other-more order e (c .args .work .now) (l .work) (l .i) (l .left) s (l .inv .1) (l .inv .2) (c .index-work-i .is) within level (⊎-elim (λ b. inl (told ∙ b)) (λ a. inr (told ∙ a)) (w .in-Before .is)) (l .inv .0)),
+        rw (w .work-is) (rest-set order e (c .args .work .now) (l .work) (l .i) (l .left) s (l .inv .1) (l .inv .2) (c .index-work-i .is) within level (l .inv .0)),
+      )
     ]
