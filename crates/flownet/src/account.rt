@@ -1,7 +1,6 @@
-ghost use Prim.Native.Nat.{_≤_};
-ghost use lib.ListN.{length};
+use book::Book;
+use book::FeedFault;
 use refusals::Refusal;
-use std::alloc::Global;
 use std::io;
 use steps::Name;
 use steps::NameDisplay;
@@ -16,7 +15,10 @@ use trails::Trail;
 // The longest text that is taken.
 pub(crate) const LONGEST_TEXT: usize = 65_536;
 
-// What a call on a book declines, by its row.
+// The words of a book's memory.
+const BOOK_WORDS: usize = 16_384;
+
+// What is declined ahead of a book, by its row.
 fn of_book(row: u8) -> Refusal {
     Refusal {
         row,
@@ -36,37 +38,16 @@ fn print_roster(rt: &LibcRuntime, roster: &Roster<Name>) -> io::Result<()> {
     Ok(())
 }
 
-// Prints the length of each job up to the ending, or up to the first that has a step which is not on the roster.
-fn print_jobs<T: Trail<Step = Name>>(
-    rt: &LibcRuntime,
-    roster: &Roster<Name>,
-    trail: &mut T,
-    work: &mut [Name],
-) -> io::Result<Option<Refusal>>
-    requires { ⌜ 1000 ≤ length (now work) ⌝ }
-{
-    let mut count: u64 = 0;
-    loop {
-        match trail.next(work) {
-            Ok(n) => {
-                if let Err(fault) = roster.all_listed(&work[0..n]) {
-                    return Ok(Some(fault.refusal().at_job(count)));
-                }
-                println!(rt, "job {count}: {n} events")?;
-                count += 1;
-            }
-            Err(stop) => {
-                return match stop.refusal() {
-                    None => Ok(None),
-                    Some(refusal) => Ok(Some(refusal.at_job(count))),
-                };
-            }
-        }
+// How many jobs a feed accepted, whatever its answer.
+fn accepted(answer: &Result<u64, FeedFault>) -> u64 {
+    match answer {
+        Ok(count) => *count,
+        Err(fault) => fault.refusal().job,
     }
 }
 
-// Prints what the text says: the roster on its first line, then its jobs without the step that is erased. Answers why it
-// goes no further, if it does not come to the end.
+// Prints what the text says: the roster on its first line, then how many of its jobs a book accepted, without the step
+// that is erased. Answers why it goes no further, if it does not come to the end.
 pub(crate) fn print_account(
     rt: &LibcRuntime,
     text: &[u8],
@@ -83,13 +64,17 @@ pub(crate) fn print_account(
     };
     let steps = Vec::from_slice(rt.alloc(), &work.as_slice()[0..n])?;
     let roster = Roster::new(steps.as_slice());
-    if n > 32 {
-        return Ok(Some(of_book(1)));
-    }
-    if let Err(fault) = roster.fit(n) {
-        return Ok(Some(fault.refusal()));
-    }
-    print_roster(rt, &roster)?;
+    let mut memory = vec![in rt.alloc(); 0u32; BOOK_WORDS]?;
+    let mut book = Book::open(memory.as_mut_slice(), n);
     let mut rest = Eraser::new(trail, erased);
-    print_jobs(rt, &roster, &mut rest, work.as_mut_slice())
+    let answer = book.feed(&roster, &mut rest, work.as_mut_slice());
+    if roster.is_ascending() && n <= 32 {
+        print_roster(rt, &roster)?;
+        let count = accepted(&answer);
+        println!(rt, "accepted: {count}")?;
+    }
+    match answer {
+        Ok(_) => Ok(None),
+        Err(fault) => Ok(Some(fault.refusal())),
+    }
 }

@@ -7,6 +7,7 @@ pub(crate) fn reason(refusal: &Refusal) -> &'static str {
         (2, _) => "the input is over 65536 bytes",
         (3, _) => "the roster is not strictly ascending",
         (5, _) => "a step of a job is not on the roster; the place is its event",
+        (6, _) => "the book has no room for a new job",
         (8, 2) => "a line has over 1000 names",
         (8, 5) => "a byte is neither of A-Z, 0-9 and _, nor a space or a line end",
         (8, 6) => "a name has over 8 bytes",

@@ -3,3 +3,4 @@ pub mod Alike
 pub mod Climbs
 pub mod Firsts
 pub mod Naming
+pub mod Numbers

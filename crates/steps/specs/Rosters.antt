@@ -1,12 +1,12 @@
 -- What a roster is asked
 use mathlib.Core.Path.{_≡_}
-use mathlib.Core.List.{List}
-use Prim.Native.Nat.{ℕ, _<_}
+use mathlib.Core.List.{List, [], _∷_, map}
+use Prim.Native.Nat.{ℕ, suc, _<_}
 use lib.ListN.{length, getD}
 use Rattle.std.specs.declared.option.Option.{Option}
 use Rattle.std.specs.declared.option.Option.the-variants.{None, Some}
 use Rattle.steps.specs.declared.orders.Order.{Order}
-use Rattle.steps.specs.declared.orders.Order.the-variants.{Before}
+use Rattle.steps.specs.declared.orders.Order.the-variants.{Before, Same, After}
 
 -- strictly ascending: each step is before every later one
 abbrev pub Ascending : {S : Type 0} → (S → S → Order) → List S → Type 0
@@ -37,3 +37,18 @@ ListedBelow {S} steps job n = (k : ℕ) → k < n → (d : S) → Listed steps (
 abbrev pub FirstUnlisted : {S : Type 0} → List S → List S → Option ℕ → Type 0
 FirstUnlisted steps job None = ListedBelow steps job (length job)
 FirstUnlisted {S} steps job (Some p) = (p < length job) × ((d : S) → Listed steps (getD job p d) → ⊥) × ListedBelow steps job p
+
+-- 0 for the same step, and one more than n for any other
+abbrev pub unless-same : Order → ℕ → ℕ
+unless-same Before n = suc n
+unless-same Same n = 0
+unless-same After n = suc n
+
+-- the number of x, by the order: the first place of the same step, and the number of steps where there is none
+abbrev pub numberOf : {S : Type 0} → (S → S → Order) → List S → S → ℕ
+numberOf order [] x = 0
+numberOf order (y ∷ ys) x = unless-same (order y x) (numberOf order ys x)
+
+-- a job as step numbers
+abbrev pub numbers : {S : Type 0} → (S → S → Order) → List S → List S → List ℕ
+numbers order steps job = map (numberOf order steps) job

@@ -1,0 +1,5 @@
+pub mod Jobs
+pub mod Faults
+pub mod View
+pub mod Enter
+pub mod Feed
