@@ -1,12 +1,13 @@
 -- One job more of a feed. Assumes nothing.
 use mathlib.Core.Path.{_≡_, refl, sym, ap, subst, _∙_}
 use mathlib.Core.List.{List, [], _∷_, _++_, append-assoc}
-use mathlib.Core.Logic.{_⊎_, inl, inr}
+use mathlib.Core.Logic.{_⊎_, inl, inr, ⊎-elim}
 use Prim.Native.Nat.{ℕ, _+_, _-_, _^_, _≤_, _<_}
 use native.Mathlib.Omega.{arith}
 use lib.ListN.{length, take, drop}
-use lib.Seq.{paste, take-paste, drop-paste, take-length}
+use lib.Seq.{paste, paste-zero, take-paste, drop-paste, take-length}
 use Rattle.std.proofs.shelf.Lists.{take-append-drop, take-take, length-append, drop-drop}
+use Rattle.std.proofs.shelf.Tests.{cases-lt}
 use Rattle.std.specs.declared.result.Result.{Result}
 use Rattle.std.specs.declared.result.Result.the-variants.{Ok, Err}
 use Rattle.steps.specs.declared.orders.Order.{Order}
@@ -22,8 +23,8 @@ use Rattle.book.specs.declared.faults.FeedFault.{FeedFault}
 use Rattle.book.specs.declared.faults.FeedFault.the-variants.{Void, Roster, ShortWork, Trail, Room}
 use Rattle.book.specs.Enter.{Entered, Kept, written}
 use Rattle.book.specs.Faults.{atJob}
-use Rattle.book.specs.Feed.{laid, Closed, Declined, Feeds, Fed, Took}
-use Rattle.book.specs.Jobs.{encode, encoded, Opens}
+use Rattle.book.specs.Feed.{laid, Closed, Declined, Feeds, Fed, Ready, Took}
+use Rattle.book.specs.Jobs.{encode, encoded, held, Opens}
 use Rattle.book.specs.View.{heldBy, memoryOf}
 use Rattle.book.proofs.Lay.{encode-push, used-is}
 
@@ -38,6 +39,21 @@ as-laid b o =
     sym (take-append-drop (b .used) ws)
     ∙ ap (λ t. t ++ drop (b .used) ws) (front ∙ ap (λ t. t ++ e) (sym one) ∙ ap (λ t. take 1 ws ++ t) (sym (take-length e)))
     ∙ ap (λ n. take 1 ws ++ take (length e) e ++ drop n ws) used
+
+-- and a void one's has none
+void-laid : (b : Book) → (Opens (b .steps) (length (memoryOf b)) → ⊥) → memoryOf b ≡ laid (memoryOf b) (heldBy b)
+void-laid b v = paste-zero (memoryOf b) 1 [] ∙ ap (laid (memoryOf b)) (sym (ap (λ n. held n (memoryOf b)) (b .idle v)))
+
+-- every book's memory has its jobs laid in it
+pub always-laid : (b : Book) → memoryOf b ≡ laid (memoryOf b) (heldBy b)
+always-laid b = ⊎-elim (as-laid b) (void-laid b) (decide (b .steps) (length (memoryOf b)))
+  where
+    decide : (s l : ℕ) → Opens s l ⊎ (Opens s l → ⊥)
+    decide s l =
+        ⊎-elim (λ a. inr (λ o. omega (arith, o .0)))
+        (λ a. ⊎-elim (λ b. inr (λ o. omega (arith, o .1)))
+        (λ b. ⊎-elim (λ c. inr (λ o. omega (arith, o .2)))
+        (λ c. ⊎-elim (λ d. inr (λ o. omega (arith, o .3))) (λ d. inl (omega arith, omega arith, omega arith, omega arith)) (cases-lt 16384 l)) (cases-lt l 2)) (cases-lt 32 s)) (cases-lt s 1)
 
 -- a new job's words after those that are laid
 pub laid-push : (ws : List ℕ) (hs : List (List ℕ)) (job : List ℕ) → 1 + length (encode hs) + length (encoded job) ≤ length ws
@@ -103,6 +119,15 @@ module _ {S : Type 0} (order : S → S → Order) (steps len : ℕ) (roster : Li
   of-jobs r [] e k hs hs′ left fit t = closed-of r e k (t .0)
   of-jobs r (j ∷ js) e k hs hs′ left fit (inl (a, more, entered, rest)) = of-jobs r js e (k + 1) more hs′ left fit rest
   of-jobs r (j ∷ js) e k hs hs′ left fit (inr t) = declined-of r hs j k fit (t .0)
+
+  -- a feed that is declined ahead of its jobs leaves book and trail
+  pub early : (f : FeedFault) (js : List (List S)) (e : Ending) (w : ℕ) (hs : List (List ℕ)) → Ready order steps len roster {A = Unit {0}} w (Err f) → Fed order steps len roster js e w hs (Err f) hs js
+  early (Void v) js e w hs t = (t, refl, refl)
+  early (Roster Unfit n) js e w hs t = (t .0, t .1, t .2, refl, refl)
+  early (Roster (Unlisted p) n) js e w hs t = absurd t
+  early ShortWork js e w hs t = (t .0, t .1, t .2, refl, refl)
+  early (Trail x n) js e w hs t = absurd t
+  early (Room n) js e w hs t = absurd t
 
   -- a feed that went through the rows ahead of its jobs
   pub went : (r : Result ℕ FeedFault) (js : List (List S)) (e : Ending) (w : ℕ) (hs hs′ : List (List ℕ)) (left : List (List S)) → Opens steps len → Fit order roster steps → 1000 ≤ w

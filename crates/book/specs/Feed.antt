@@ -58,6 +58,16 @@ module _ {S : Type 0} (order : S → S → Order) (steps len : ℕ) (roster : Li
   Fed js e w hs (Err (Trail f n)) hs′ left = Opens steps len × Fit order roster steps × (1000 ≤ w) × Feeds js e 0 hs (Err (Trail f n)) hs′ left
   Fed js e w hs (Err (Room n)) hs′ left = Opens steps len × Fit order roster steps × (1000 ≤ w) × Feeds js e 0 hs (Err (Room n)) hs′ left
 
+  -- the rows ahead of the jobs
+  abbrev pub Ready : {A : Type 0} → ℕ → Result A FeedFault → Type 0
+  Ready w (Ok _) = Opens steps len × Fit order roster steps × (1000 ≤ w)
+  Ready w (Err (Void v)) = VoidBy steps len v
+  Ready w (Err (Roster Unfit n)) = Opens steps len × (Fit order roster steps → ⊥) × (n ≡ 0)
+  Ready w (Err (Roster (Unlisted p) n)) = ⊥
+  Ready w (Err ShortWork) = Opens steps len × Fit order roster steps × (w < 1000)
+  Ready w (Err (Trail f n)) = ⊥
+  Ready w (Err (Room n)) = ⊥
+
   -- one job of a feed: entered, or declined
   abbrev pub Took : List (List ℕ) → List S → Result Entry FeedFault → List (List ℕ) → Type 0
   Took hs job (Ok a) hs′ = Entered order steps len hs roster job (Ok a) hs′

@@ -4,7 +4,7 @@ ghost use lib.ListN.{length};
 ghost use denote.Ref.{name};
 ghost use Rattle.steps.specs.Rosters.{Fit, numbers};
 ghost use Rattle.book.specs.Enter.{Countable, written};
-ghost use Rattle.book.specs.Feed.{Checked, Ends, Fed, Took, Whole, laid};
+ghost use Rattle.book.specs.Feed.{Checked, Ends, Fed, Ready, Took, Whole, laid};
 ghost use Rattle.book.specs.Jobs.{Opens};
 ghost use Rattle.book.specs.View.{heldBy, memoryOf};
 use crate::entering::number_events;
@@ -53,6 +53,18 @@ fn ended(asked: Result<usize, TrailStop>, count: u64) -> Result<u64, FeedFault>
 }
 
 impl Book<'_> {
+    // What a feed asks ahead of its jobs, with so many steps of work memory.
+    fn ready<T: Step>(&self, roster: &Roster<T>, work: usize) -> Result<(), FeedFault>
+        ensures { λ r. ⌜ Ready (T·Step .order) (now (self .entry) .steps) (length (memoryOf (now (self .entry)))) (now (now (roster .entry) .entries)) work r ⌝ }
+    {
+        self.open_or_void()?;
+        roster.fit(self.steps)?;
+        if work < 1000 {
+            return Err(FeedFault::ShortWork);
+        }
+        Ok(())
+    }
+
     // Enters a job of a trail.
     fn take_job<T: Step>(&mut self, roster: &Roster<T>, job: &[T]) -> Result<Entry, FeedFault>
         requires open { ⌜ Opens (now self .steps) (length (memoryOf (now self))) ⌝ }
@@ -114,10 +126,8 @@ impl Book<'_> {
         ensures steps { λ _. ⌜ now (self .exit) .steps ≡ now (self .entry) .steps ⌝ }
         ensures named { λ _. ⌜ name (now (self .exit) .words) ≡ name (now (self .entry) .words) ⌝ }
     {
-        self.open_or_void()?;
-        roster.fit(self.steps)?;
-        if work.len() < 1000 {
-            return Err(FeedFault::ShortWork);
+        if let Err(fault) = self.ready(roster, work.len()) {
+            return Err(fault);
         }
         self.feed_jobs(roster, trail, work)
     }
