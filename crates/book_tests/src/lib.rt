@@ -1,22 +1,35 @@
 // Examples of the book, at both kinds of step, and a caller that knows its memory once a book in it has ended.
 ghost use mathlib.Core.Path.{_≡_};
-ghost use Prim.Native.Nat.{_+_, _^_, _≤_};
+ghost use mathlib.Core.List.{[]};
+ghost use Prim.Native.Nat.{_+_, _^_};
 ghost use lib.ListN.{length, set};
+ghost use Rattle.steps.specs.Rosters.{numbers};
+ghost use Rattle.book.specs.Enter.{written};
+ghost use Rattle.book.specs.Jobs.{Opens};
 use book::Book;
+use book::EnterFault;
+use book::Entry;
+use steps::Roster;
+use steps::Step;
 
-// Opens a book in lent memory and ends it: word 0 is the book's, and the rest is as it was.
-fn opened_and_ended(memory: &mut [u32])
-    requires { ⌜ (2 ≤ length (now memory)) × (length (now memory) ≤ 16384) ⌝ }
-    ensures { λ _. ⌜ now (memory .exit) ≡ set (now (memory .entry)) 0 (2 ^ 31 + 5) ⌝ }
+// Enters one job into a new book and ends the book: the lent memory then has word 0 and, where the job was accepted, its
+// words behind it, and the rest is as it was.
+fn entered_and_ended<T: Step>(
+    memory: &mut [u32],
+    steps: usize,
+    roster: &Roster<T>,
+    job: &[T],
+) -> Result<Entry, EnterFault>
+    requires { ⌜ Opens steps (length (now memory)) ⌝ }
+    ensures { λ r. ⌜ now (memory .exit) ≡ written [] (numbers (T·Step .order) (now (now (roster .entry) .entries)) (now (job .entry))) r (set (now (memory .entry)) 0 (2 ^ 31 + steps)) ⌝ }
 {
-    let _book = Book::open(memory, 5);
+    let mut book = Book::open(memory, steps);
+    book.enter(roster, job)
 }
 
 #[cfg(test)]
 mod tests {
     use super::*;
-    use book::EnterFault;
-    use book::Entry;
     use book::FeedFault;
     use book::Void;
     use book::entries::EntryDebug;
@@ -33,7 +46,6 @@ mod tests {
     use steps::CodeStep;
     use steps::Name;
     use steps::NameStep;
-    use steps::Roster;
     use steps::RosterFault;
     use texts::TextTrail;
     use texts::TextTrailTrail;
@@ -93,10 +105,17 @@ mod tests {
 
     #[test]
     fn rest_of_the_memory() -> Result<(), Fail> {
+        let one = code(1)?;
+        let steps = [one];
+        let roster = Roster::new(&steps);
         let mut memory = [7u32; 4];
-        opened_and_ended(&mut memory);
-        check_eq(memory[0], 0x8000_0005)?;
-        check_eq(memory[1], 7)?;
+        check_eq(
+            entered_and_ended(&mut memory, 1, &roster, &[one]),
+            Ok(Entry::New { number: 0 }),
+        )?;
+        check_eq(memory[0], 0x8000_0001)?;
+        check_eq(memory[1], 0x4000_0001)?;
+        check_eq(memory[2], 0)?;
         check_eq(memory[3], 7)
     }
 
