@@ -1,0 +1,13 @@
+pub mod Order
+pub mod Sets
+pub mod Closure
+pub mod Grow
+pub mod Reading
+pub mod Holding
+pub mod Listings
+pub mod Turns
+pub mod Placing
+pub mod Deciding
+pub mod Exists
+pub mod Pigeons
+pub mod Finish
