@@ -1,3 +1,5 @@
 pub mod Lay
 pub mod Numbering
 pub mod Feeds
+pub mod Settled
+pub mod SettledFeed

@@ -1,7 +1,9 @@
 ghost use mathlib.Core.Path.{_≡_};
-ghost use Prim.Native.Nat.{_≤_};
+ghost use mathlib.Core.List.{List};
+ghost use Prim.Native.Nat.{ℕ, _≤_};
 ghost use lib.ListN.{length};
 ghost use denote.Ref.{name};
+ghost use Rattle.std.specs.declared.result.Result.{Result as Perhaps};
 ghost use Rattle.steps.specs.Rosters.{Fit, numbers};
 ghost use Rattle.book.specs.Enter.{Countable, written};
 ghost use Rattle.book.specs.Feed.{Checked, Ends, Fed, Ready, Took, Whole, laid};
@@ -112,8 +114,8 @@ impl Book<'_> {
         }
     }
 
-    // Enters the jobs of a trail up to its ending, or up to the first that is declined, and answers how many were accepted.
-    pub fn feed<T: Trail>(
+    // Feeds a trail, row by row.
+    fn feed_trail<T: Trail>(
         &mut self,
         roster: &Roster<T::Step>,
         trail: &mut T,
@@ -130,5 +132,24 @@ impl Book<'_> {
             return Err(fault);
         }
         self.feed_jobs(roster, trail, work)
+    }
+
+    // Enters the jobs of a trail up to its ending, or up to the first that is declined, and answers how many were accepted.
+    // No other answer is right, no other jobs held, and no other jobs left to the trail.
+    pub fn feed<T: Trail>(
+        &mut self,
+        roster: &Roster<T::Step>,
+        trail: &mut T,
+        work: &mut [T::Step],
+    ) -> Result<u64, FeedFault>
+        ensures fed { λ r. ⌜ Fed (Step·Step .order) (now (self .entry) .steps) (length (memoryOf (now (self .entry)))) (now (now (roster .entry) .entries)) (T·Trail .jobs (now (trail .entry))) (T·Trail .ending (now (trail .entry))) (length (now (work .entry))) (heldBy (now (self .entry))) r (heldBy (now (self .exit))) (T·Trail .jobs (now (trail .exit))) ⌝ }
+        ensures only { λ r. ⌜ ((s : Perhaps ℕ FeedFault) (hs : List (List ℕ)) (left : List (List T·Step)) → Fed (Step·Step .order) (now (self .entry) .steps) (length (memoryOf (now (self .entry)))) (now (now (roster .entry) .entries)) (T·Trail .jobs (now (trail .entry))) (T·Trail .ending (now (trail .entry))) (length (now (work .entry))) (heldBy (now (self .entry))) s hs left → (s ≡ r) × (hs ≡ heldBy (now (self .exit))) × (left ≡ T·Trail .jobs (now (trail .exit)))) ⌝ }
+        ensures ending { λ _. ⌜ T·Trail .ending (now (trail .exit)) ≡ T·Trail .ending (now (trail .entry)) ⌝ }
+        ensures laid { λ _. ⌜ memoryOf (now (self .exit)) ≡ laid (memoryOf (now (self .entry))) (heldBy (now (self .exit))) ⌝ }
+        ensures long { λ _. ⌜ length (memoryOf (now (self .exit))) ≡ length (memoryOf (now (self .entry))) ⌝ }
+        ensures steps { λ _. ⌜ now (self .exit) .steps ≡ now (self .entry) .steps ⌝ }
+        ensures named { λ _. ⌜ name (now (self .exit) .words) ≡ name (now (self .entry) .words) ⌝ }
+    {
+        self.feed_trail(roster, trail, work)
     }
 }

@@ -51,7 +51,7 @@ fn understood(text: &[u8]) -> &[u8]
 }
 
 impl<'a> TextTrail<'a> {
-    // The trail of a text: `from` its start.
+    // The trail that a text is, read from its first byte on.
     pub fn new(text: &'a [u8]) -> TextTrail<'a>
         ensures made { λ r. ⌜ (now (r .text) ≡ now (text .entry)) × (r .at ≡ 0) ⌝ }
         ensures reading { λ _. ⌜ Understood (now (text .entry)) (from (now (text .entry)) 0 .jobs) (from (now (text .entry)) 0 .ending) ⌝ }
