@@ -1,4 +1,6 @@
 // The two bonds of a book, and the lists of their groups: the places of its net, and the steps that run side by side.
+#![tactic(auto)]
+
 pub mod faults;
 pub mod listing;
 pub mod pairing;

@@ -1,5 +1,7 @@
 // Examples of the two bonds of a book and of their lists: the side-by-side groups, places, and as many places as a list can
 // have and more.
+#![tactic(auto)]
+
 #[cfg(test)]
 mod tests {
     use bonds::{BondFault, PlaceBond, SideBond, list_places, list_sides};

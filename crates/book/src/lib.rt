@@ -1,4 +1,6 @@
 // The book: the jobs of a batch as step numbers, in memory that the caller lends.
+#![tactic(auto)]
+
 mod entering;
 pub mod entries;
 pub mod faults;

@@ -1,4 +1,6 @@
 // Examples of the book, at both kinds of step, and a caller that knows its memory once a book in it has ended.
+#![tactic(auto)]
+
 ghost use Rattle.std.specs.Prelude.{◌≡◌, ◌+◌, ◌^◌, [], length, slice_set};
 ghost use Rattle.steps.specs.Rosters.{numbers};
 ghost use Rattle.book.specs.Enter.{written};

@@ -1,4 +1,6 @@
 // Which of the five facts, on which nets rest, differ between two books.
+#![tactic(auto)]
+
 pub mod comparing;
 mod feeding;
 mod kin;

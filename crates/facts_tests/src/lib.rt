@@ -1,4 +1,6 @@
 // Examples of which facts differ between two books.
+#![tactic(auto)]
+
 #[cfg(test)]
 mod tests {
     use book::Book;

@@ -1,4 +1,6 @@
 // The relations of the steps of a book's jobs, as rows of bits.
+#![tactic(auto)]
+
 pub mod asking;
 mod noting;
 pub mod reading;

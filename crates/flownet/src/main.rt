@@ -1,5 +1,7 @@
 // Reads a batch from standard input and gives an account of what can be said of it so far: its roster, the lengths of its
 // jobs, and how it ended.
+#![tactic(auto)]
+
 use account::{LONGEST_TEXT, print_account};
 use anyhow::anyhow;
 use reasons::reason;

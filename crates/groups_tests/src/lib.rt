@@ -1,5 +1,7 @@
 // Examples of lists: bonds of no, one and 64 points, points that stand in no group, marks, the order, as many groups as a
 // list can have and one more, and the list's memory.
+#![tactic(auto)]
+
 #[cfg(test)]
 mod drawn;
 

@@ -1,4 +1,6 @@
 // The net of a book: its steps, its places, and the steps that loop on them, as words in lent memory.
+#![tactic(auto)]
+
 pub mod drawing;
 pub mod faults;
 mod plans;

@@ -1,5 +1,7 @@
 // Examples of draws: nets word by word, memory that a net fits exactly and memory that lacks a word, as many places as a net
 // can have and more, and what is declined.
+#![tactic(auto)]
+
 ghost use Rattle.std.specs.Prelude.{◌<◌, ◌≤◌, length};
 
 #[cfg(test)]

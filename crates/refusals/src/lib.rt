@@ -1,4 +1,6 @@
 // What a call that declines says of it: five numbers, the same for every layer.
+#![tactic(auto)]
+
 ghost use Rattle.std.specs.Prelude.{◌≡◌, ◌++◌, Some, codes, decimal};
 
 use std::fmt;

@@ -1,5 +1,7 @@
 // The ground layer: what a step is, the two kinds of step that cards write, and the roster that numbers the steps of a
 // batch.
+#![tactic(auto)]
+
 pub mod codes;
 pub mod faults;
 pub mod kinds;

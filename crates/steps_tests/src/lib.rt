@@ -1,4 +1,6 @@
 // Examples of the ground layer, at both kinds of step: the ends of the ranges and one past each, the order, rosters.
+#![tactic(auto)]
+
 #[cfg(test)]
 mod tests {
     use refusals::Refusal;

@@ -1,4 +1,6 @@
 // The text trail: names in text, one job a line.
+#![tactic(auto)]
+
 mod judging;
 pub mod lexers;
 pub mod lines;

@@ -1,5 +1,7 @@
 // Examples of the text trail and of the eraser over it: every cause at its first and last place, the limits, and what an
 // eraser leaves.
+#![tactic(auto)]
+
 #[cfg(test)]
 mod tests {
     use std::process::Abort;

@@ -1,5 +1,7 @@
 // Examples of the word trail: every cause at its first and last place, heads at both ends of their range and one past
 // each, filler anywhere, the work memory.
+#![tactic(auto)]
+
 #[cfg(test)]
 mod tests {
     use std::process::Abort;

@@ -1,4 +1,6 @@
 // Bonds that have far more groups than a list can have, or groups of nearly all their points. Each list ends at once.
+#![tactic(auto)]
+
 ghost use Rattle.std.specs.Prelude.{◌/◌, ◌<◌, ◌≤◌, not, ◌&&◌, ◌||◌, ◌==◌, nat_le, nat_lt};
 ghost use Rattle.std.proofs.Common.{rules, arith};
 
