@@ -3,6 +3,6 @@ use Rattle.steps.proofs.rosters.Roster.number.Goals as goal
 
 pub returns : goal.returns
 returns g c = record {
-  first = c.place-of.ensures;
-  only = λ s. numbered_once c.args.self.now.entries.now c.args.step.now c.place-of.result s c.place-of.ensures;
+  first = c.place_of.ensures;
+  only = λ s. numbered_once c.args.self.now.entries.now c.args.step.now c.place_of.result s c.place_of.ensures;
 }
