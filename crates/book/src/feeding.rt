@@ -80,9 +80,9 @@ impl Book<'_> {
         work: &mut [T::Step],
     ) -> Result<u64, FeedFault>
         requires open { Opens self.old.steps (length (memory_of self.old)) }
-        requires fit { Fit Step-as-Step.order roster.now.entries.now self.old.steps }
+        requires fit { Fit T.Step.order roster.now.entries.now self.old.steps }
         requires work { 1000 ≤ length work.old }
-        ensures fed { Fed Step-as-Step.order self.old.steps (length (memory_of self.old)) roster.now.entries.now (T.Trail.jobs trail.old) (T.Trail.ending trail.old) (length work.old) (held_by self.old) result (held_by self.new) (T.Trail.jobs trail.new) }
+        ensures fed { Fed T.Step.order self.old.steps (length (memory_of self.old)) roster.now.entries.now (T.Trail.jobs trail.old) (T.Trail.ending trail.old) (length work.old) (held_by self.old) result (held_by self.new) (T.Trail.jobs trail.new) }
         ensures ending { T.Trail.ending trail.new ≡ T.Trail.ending trail.old }
         ensures laid { memory_of self.new ≡ laid (memory_of self.old) (held_by self.new) }
         ensures long { length (memory_of self.new) ≡ length (memory_of self.old) }
@@ -109,7 +109,7 @@ impl Book<'_> {
         trail: &mut T,
         work: &mut [T::Step],
     ) -> Result<u64, FeedFault>
-        ensures fed { Fed Step-as-Step.order self.old.steps (length (memory_of self.old)) roster.now.entries.now (T.Trail.jobs trail.old) (T.Trail.ending trail.old) (length work.old) (held_by self.old) result (held_by self.new) (T.Trail.jobs trail.new) }
+        ensures fed { Fed T.Step.order self.old.steps (length (memory_of self.old)) roster.now.entries.now (T.Trail.jobs trail.old) (T.Trail.ending trail.old) (length work.old) (held_by self.old) result (held_by self.new) (T.Trail.jobs trail.new) }
         ensures ending { T.Trail.ending trail.new ≡ T.Trail.ending trail.old }
         ensures laid { memory_of self.new ≡ laid (memory_of self.old) (held_by self.new) }
         ensures long { length (memory_of self.new) ≡ length (memory_of self.old) }
@@ -131,9 +131,9 @@ impl Book<'_> {
         trail: &mut T,
         work: &mut [T::Step],
     ) -> Result<u64, FeedFault>
-        ensures fed { Fed Step-as-Step.order self.old.steps (length (memory_of self.old)) roster.now.entries.now (T.Trail.jobs trail.old) (T.Trail.ending trail.old) (length work.old) (held_by self.old) result (held_by self.new) (T.Trail.jobs trail.new) }
-        ensures only { (s : Perhaps ℕ FeedFault) (hs : List (List ℕ)) (left : List (List T.Step)) → Fed Step-as-Step.order self.old.steps (length (memory_of self.old)) roster.now.entries.now (T.Trail.jobs trail.old) (T.Trail.ending trail.old) (length work.old) (held_by self.old) s hs left → (s ≡ result) × (hs ≡ held_by self.new) × (left ≡ T.Trail.jobs trail.new) }
-        ensures together { Together Step-as-Step.order self.old.steps (length (memory_of self.old)) roster.now.entries.now (T.Trail.jobs trail.old) (T.Trail.ending trail.old) (held_by self.old) result (held_by self.new) (T.Trail.jobs trail.new) }
+        ensures fed { Fed T.Step.order self.old.steps (length (memory_of self.old)) roster.now.entries.now (T.Trail.jobs trail.old) (T.Trail.ending trail.old) (length work.old) (held_by self.old) result (held_by self.new) (T.Trail.jobs trail.new) }
+        ensures only { (s : Perhaps ℕ FeedFault) (hs : List (List ℕ)) (left : List (List T.Step)) → Fed T.Step.order self.old.steps (length (memory_of self.old)) roster.now.entries.now (T.Trail.jobs trail.old) (T.Trail.ending trail.old) (length work.old) (held_by self.old) s hs left → (s ≡ result) × (hs ≡ held_by self.new) × (left ≡ T.Trail.jobs trail.new) }
+        ensures together { Together T.Step.order self.old.steps (length (memory_of self.old)) roster.now.entries.now (T.Trail.jobs trail.old) (T.Trail.ending trail.old) (held_by self.old) result (held_by self.new) (T.Trail.jobs trail.new) }
         ensures ending { T.Trail.ending trail.new ≡ T.Trail.ending trail.old }
         ensures laid { memory_of self.new ≡ laid (memory_of self.old) (held_by self.new) }
         ensures long { length (memory_of self.new) ≡ length (memory_of self.old) }

@@ -1,5 +1,5 @@
 -- The number that is told of a step is the one by the order. Assumes nothing.
-use Rattle.std.proofs.Common.{◌≡◌, ℕ, zero, suc, ◌<◌, List, [], ◌∷◌, length, get_or, Some, sym, refl, ap, ◌∙◌, arith}
+use Rattle.std.proofs.Common.{◌≡◌, ℕ, zero, suc, List, [], ◌∷◌, Some, refl, ap, ◌∙◌, arith}
 use Rattle.steps.specs.declared.orders.Order.{Order}
 use Rattle.steps.specs.declared.orders.Order.TheVariants.{Before, Same, After}
 use Rattle.steps.specs.Orders.{OrderLaws}

@@ -1,5 +1,5 @@
 -- What a roster declines, and the five numbers of each fault
-use Rattle.std.specs.Prelude.{◌≡◌, ℕ, List, Some, None, Ok, Err, Result}
+use Rattle.std.specs.Prelude.{ℕ, List, Some, None, Ok, Err, Result}
 use Rattle.refusals.specs.declared.Refusal.{Refusal}
 use Rattle.steps.specs.declared.orders.Order.{Order}
 use Rattle.steps.specs.declared.faults.RosterFault.{RosterFault}

@@ -1,9 +1,8 @@
 -- `lexical` is an order, and how a comparison goes along two lists. Assumes nothing.
-use Rattle.std.specs.Prelude.{◌≡◌, ℕ, ◌+◌, ◌<◌, ◌≤◌, true, false, cond, List, [], ◌∷◌, length, drop, slice_index, refl}
+use Rattle.std.specs.Prelude.{◌≡◌, ℕ, ◌+◌, ◌<◌, ◌≤◌, List, [], ◌∷◌, length, drop, slice_index, refl}
 use Rattle.std.proofs.Common.{sym, ap, ◌∙◌, arith}
 use Rattle.std.proofs.lemmas.Bool.Decides.{nat_tests}
 use Rattle.std.proofs.lemmas.List.{drop_more, drop_all}
-use Rattle.steps.specs.declared.orders.Order.{Order}
 use Rattle.steps.specs.declared.orders.Order.TheVariants.{Before, Same, After}
 use Rattle.steps.specs.Orders.{OrderLaws, between, then_by, lexical, swapped}
 

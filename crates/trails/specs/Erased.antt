@@ -1,5 +1,5 @@
 -- What an eraser leaves of the jobs below it. Assumes nothing.
-use Rattle.std.specs.Prelude.{◌≡◌, ℕ, ◌+◌, ◌^◌, ◌<◌, ◌≤◌, List, [], ◌∷◌, map, length, take, Ok, Err, Result}
+use Rattle.std.specs.Prelude.{◌≡◌, ℕ, ◌+◌, ◌≤◌, List, [], ◌∷◌, map, length, take, Ok, Err, Result}
 use Rattle.std.proofs.Common.{arith}
 use Rattle.steps.specs.declared.orders.Order.{Order}
 use Rattle.steps.specs.declared.orders.Order.TheVariants.{Before, Same, After}

@@ -45,7 +45,7 @@ fn erase_next<T: Trail>(
     step: &T::Step,
     work: &mut [T::Step],
 ) -> Result<usize, TrailStop>
-    ensures { ErasedNext Step-as-Step.order step.now (T.Trail.jobs below.old) (T.Trail.ending below.old) (T.Trail.jobs below.new) (T.Trail.ending below.new) work.old work.new result }
+    ensures { ErasedNext T.Step.order step.now (T.Trail.jobs below.old) (T.Trail.ending below.old) (T.Trail.jobs below.new) (T.Trail.ending below.new) work.old work.new result }
 {
     let n = below.next(work)?;
     let left = take_out(work, n, step);
@@ -55,9 +55,9 @@ fn erase_next<T: Trail>(
 impl<T: Trail> Trail for Eraser<T> {
     type Step = T::Step;
 
-    ghost jobs = { λ t. erased Step-as-Step.order t.step (T.Trail.jobs t.below) };
+    ghost jobs = { λ t. erased T.Step.order t.step (T.Trail.jobs t.below) };
 
-    ghost lawful = { λ t. erased_lawful Step-as-Step.order t.step (T.Trail.jobs t.below) (T.Trail.lawful t.below) };
+    ghost lawful = { λ t. erased_lawful T.Step.order t.step (T.Trail.jobs t.below) (T.Trail.lawful t.below) };
 
     ghost ending = { λ t. T.Trail.ending t.below };
 

@@ -1,4 +1,4 @@
-use Rattle.std.proofs.Common.{◌≡◌, get_or, subst, arith, below_more}
+use Rattle.std.proofs.Common.{subst, below_more}
 use Rattle.std.proofs.lemmas.List.{get_or_read}
 use Rattle.steps.specs.Rosters.{Listed}
 use Rattle.steps.proofs.rosters.first_unlisted.Goals as goal

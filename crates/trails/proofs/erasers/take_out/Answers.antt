@@ -5,7 +5,7 @@ use Rattle.trails.proofs.erasers.take_out.Goals as goal
 pub loop-i-preserved : goal.loop-i-preserved
 loop-i-preserved g c =
     let l = c.loop-i in
-    let order = g.row.S-Step.order in
+    let order = g.S.Step.order in
     let e = c.args.step.now in
     let s = c.index-work-i.result in
     let within : l.i < length l.work = omega arith in

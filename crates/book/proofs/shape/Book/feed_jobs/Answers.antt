@@ -10,7 +10,7 @@ loop-n-init g c = (refl, refl, refl, refl, omega arith, refl, as_laid c.args.sel
 
 pub returns-in-Err : goal.returns-in-Err
 returns-in-Err g c =
-    let order = g.Step-as-Step.order in
+    let order = g.T.Step.Step.order in
     let book = c.args.self.now in
     let inv = c.loop-n.invariant in
     let got = c.in-Ok.ensures in
@@ -30,7 +30,7 @@ returns-in-Err g c =
 
 pub loop-n-preserved : goal.loop-n-preserved
 loop-n-preserved g c =
-    let order = g.Step-as-Step.order in
+    let order = g.T.Step.Step.order in
     let book = c.args.self.now in
     let roster = c.args.roster.now.entries.now in
     let inv = c.loop-n.invariant in

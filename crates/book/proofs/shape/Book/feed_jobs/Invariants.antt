@@ -17,8 +17,8 @@ invariant-loop-n g l =
     × (g.T.Trail.ending l.trail ≡ g.T.Trail.ending l.initial.trail)
     × (memory_of l.self ≡ laid (memory_of l.initial.self) (held_by l.self))
     × ((r : Result ℕ FeedFault) (hs : List (List ℕ)) (left : List (List g.row.T-Step.Denot))
-    → Feeds g.Step-as-Step.order l.initial.self.steps (length (memory_of l.initial.self)) l.roster.entries.now (g.T.Trail.jobs l.trail) (g.T.Trail.ending l.initial.trail) l.count (held_by l.self) r hs left
-    → Feeds g.Step-as-Step.order l.initial.self.steps (length (memory_of l.initial.self)) l.roster.entries.now (g.T.Trail.jobs l.initial.trail) (g.T.Trail.ending l.initial.trail) 0 (held_by l.initial.self) r hs left)
+    → Feeds g.T.Step.Step.order l.initial.self.steps (length (memory_of l.initial.self)) l.roster.entries.now (g.T.Trail.jobs l.trail) (g.T.Trail.ending l.initial.trail) l.count (held_by l.self) r hs left
+    → Feeds g.T.Step.Step.order l.initial.self.steps (length (memory_of l.initial.self)) l.roster.entries.now (g.T.Trail.jobs l.initial.trail) (g.T.Trail.ending l.initial.trail) 0 (held_by l.initial.self) r hs left)
 
 abbrev pub decreases-loop-n : goal.decreases-loop-n
 decreases-loop-n g l = length (g.T.Trail.jobs l.trail)

@@ -7,7 +7,7 @@ pub returns-in-Err : goal.returns-in-Err
 returns-in-Err g c =
     let book = c.args.self.now in
     record {
-      fed = early g.Step-as-Step.order book.steps (length (memory_of book)) c.args.roster.now.entries.now c.in-Err.fault (g.T.Trail.jobs c.args.trail.now) (g.T.Trail.ending c.args.trail.now) (length c.args.work.now) (held_by book) c.in-Err.ensures;
+      fed = early g.T.Step.Step.order book.steps (length (memory_of book)) c.args.roster.now.entries.now c.in-Err.fault (g.T.Trail.jobs c.args.trail.now) (g.T.Trail.ending c.args.trail.now) (length c.args.work.now) (held_by book) c.in-Err.ensures;
       ending = refl;
       laid = always_laid book;
       long = refl;

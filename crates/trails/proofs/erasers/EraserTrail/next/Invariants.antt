@@ -4,7 +4,7 @@ use Rattle.trails.proofs.erasers.EraserTrail.next.Given as goal
 
 abbrev pub invariant-loop-left : goal.invariant-loop-left
 invariant-loop-left g l =
-    (erased g.Step-as-Step.order l.self.step (g.T.Trail.jobs l.self.below) ≡ erased g.Step-as-Step.order l.initial.self.step (g.T.Trail.jobs l.initial.self.below))
+    (erased g.T.Step.Step.order l.self.step (g.T.Trail.jobs l.self.below) ≡ erased g.T.Step.Step.order l.initial.self.step (g.T.Trail.jobs l.initial.self.below))
     × (g.T.Trail.ending l.self.below ≡ g.T.Trail.ending l.initial.self.below)
 
 abbrev pub decreases-loop-left : goal.decreases-loop-left
