@@ -1,20 +1,20 @@
-use Rattle.std.proofs.Common.{◌≡◌, ℕ, zero, suc, ◌+◌, ◌-◌, ◌^◌, ◌<◌, ◌≤◌, Bool, true, false, cond, ltb, ◌⊎◌, List, [], ◌∷◌, ◌++◌, length, get_or, take, drop, set, sym, refl, ap, ◌∙◌, subst, inl, inr, ⊎_elim, append_assoc, add-one, arith, length-append, length-take}
-use lib.Seq.{paste, paste-zero, paste-suc, take-paste, drop-paste, length-paste, take-length, append_snoc}
-use Rattle.std.proofs.lemmas.List.{take-set-le, get_or_append_left, get_or_at, length_push, length-set, append-nil, get_or-drop, get_or-take, take_more_set, drop-set-lt, drop_all, drop_more, drop-drop, drop_at, length-drop, length-take-le, ext_get_or, get_or-append-add}
-use Rattle.std.proofs.lemmas.Bool.{lt-ltb, le-ltb, cond-true, cond-false, cases_lt, cases_eq}
+use Rattle.std.proofs.Common.{◌≡◌, ℕ, suc, ◌+◌, ◌-◌, ◌^◌, ◌<◌, ◌≤◌, Bool, true, false, cond, ltb, ◌⊎◌, List, [], ◌∷◌, ◌++◌, length, get_or, take, drop, set, sym, refl, ap, ◌∙◌, subst, inl, inr, ⊎_elim, append_assoc, arith, length-append}
+use lib.Seq.{paste, take-paste, take-length}
+use Rattle.std.proofs.lemmas.List.{take-set-le, get_or_append_left, get_or_at, length_push, length-set, append-nil, get_or-drop, get_or-take, take_more_set, drop-set-lt, drop_all, drop_more, drop-drop, drop_at, length-drop, length-take-le, ext_get_or}
+use Rattle.std.proofs.lemmas.Bool.{lt-ltb, le-ltb, cond-true, cond-false, cases_lt}
 use Rattle.book.specs.declared.shape.Book.{Book}
 use Rattle.book.specs.Jobs.{encoded, encode, loose, jobs, held, Opens, OfSteps, EachSized, EachStepped, Apart, Laid}
 
--- what a book's ghost fields say, in their order
+-- what a book's ghost fields say, by their names
 abbrev pub Facts : ℕ → ℕ → List ℕ → Type 0
-Facts steps used ws =
-    (used ≤ length ws)
-    × (((Opens steps (length ws) → ⊥) → used ≡ 0)
-    × ((Opens steps (length ws) → Laid steps used ws)
-    × (EachSized (held used ws)
-    × (EachStepped steps (held used ws)
-    × (Apart (held used ws)
-    × Unit {0})))))
+Facts steps used ws = record {
+  within : used ≤ length ws;
+  idle : (Opens steps (length ws) → ⊥) → used ≡ 0;
+  laid : Opens steps (length ws) → Laid steps used ws;
+  sized : EachSized (held used ws);
+  stepped : EachStepped steps (held used ws);
+  apart : Apart (held used ws);
+}
 
 abbrev Small : List ℕ → Type 0
 Small j = (k : ℕ) → k < length j → get_or j k 0 < 2 ^ 30
@@ -53,7 +53,7 @@ encode_push (i ∷ js) j = ap (λ (r : List ℕ). encoded i ++ r) (encode_push j
 
 -- a book just opened, and a void one
 pub void : (steps : ℕ) (ws : List ℕ) → (Opens steps (length ws) → ⊥) → Facts steps 0 ws
-void steps ws nay = (omega arith, ((λ _. refl), ((λ o. absurd (nay o)), ((λ i h. absurd (nought i h)), ((λ i k h _. absurd (nought i h)), ((λ i j _ h _. nought j h), tt))))))
+void steps ws nay = record { within = omega arith; idle = λ _. refl; laid = λ o. absurd (nay o); sized = λ i h. absurd (nought i h); stepped = λ i k h _. absurd (nought i h); apart = λ i j _ h _. nought j h }
   where
     nought : (i : ℕ) → i < 0 → ⊥
     nought i h = omega arith
@@ -63,7 +63,7 @@ fresh steps [] o = absurd (none o.2)
   where
     none : 2 ≤ 0 → ⊥
     none h = omega arith
-fresh steps (w ∷ ws) o = (omega arith, ((λ nay. absurd (nay o)), ((λ _. refl), ((λ i h. absurd (nought i h)), ((λ i k h _. absurd (nought i h)), ((λ i j _ h _. nought j h), tt))))))
+fresh steps (w ∷ ws) o = record { within = omega arith; idle = λ nay. absurd (nay o); laid = λ _. refl; sized = λ i h. absurd (nought i h); stepped = λ i k h _. absurd (nought i h); apart = λ i j _ h _. nought j h }
   where
     nought : (i : ℕ) → i < 0 → ⊥
     nought i h = omega arith
@@ -71,7 +71,7 @@ fresh steps (w ∷ ws) o = (omega arith, ((λ nay. absurd (nay o)), ((λ _. refl
 -- a write past what is used
 pub kept : (steps used : ℕ) (ws : List ℕ) (i a : ℕ) → used ≤ i → Facts steps used ws → Facts steps used (set ws i a)
 kept steps used ws i a h f =
-    let P : ℕ → List ℕ → Type 0 = λ len front. (used ≤ len) × (((Opens steps len → ⊥) → used ≡ 0) × ((Opens steps len → front ≡ (2 ^ 31 + steps) ∷ encode (jobs (drop 1 front))) × (EachSized (jobs (drop 1 front)) × (EachStepped steps (jobs (drop 1 front)) × (Apart (jobs (drop 1 front)) × Unit {0}))))) in
+    let P : ℕ → List ℕ → Type 0 = λ len front. record { within : used ≤ len; idle : (Opens steps len → ⊥) → used ≡ 0; laid : Opens steps len → front ≡ (2 ^ 31 + steps) ∷ encode (jobs (drop 1 front)); sized : EachSized (jobs (drop 1 front)); stepped : EachStepped steps (jobs (drop 1 front)); apart : Apart (jobs (drop 1 front)) } in
     subst (λ (n : ℕ). P n (take used (set ws i a))) (sym (length-set ws i a)) (subst (P (length ws)) (sym (take-set-le used ws i a h)) f)
 
 -- one job more
@@ -107,13 +107,13 @@ module _ (steps used : ℕ) (ws : List ℕ) (job : List ℕ) (o : Opens steps (l
   module _ (front : List ℕ) (e : front ≡ take used ws ++ encoded job) where
     front_jobs : jobs (drop 1 front) ≡ held used ws ++ job ∷ []
     front_jobs =
-        let l = f.1.1.0 o in
+        let l = f.laid o in
         let g : drop 1 front ≡ drop 1 (take used ws) ++ encoded job = ap (λ (x : List ℕ). drop 1 x) (e ∙ ap (λ (x : List ℕ). x ++ encoded job) l) ∙ ap (λ (x : List ℕ). drop 1 x ++ encoded job) (sym l) in
         ap jobs g ∙ jobs_push (drop 1 (take used ws)) job small
 
     front_laid : front ≡ (2 ^ 31 + steps) ∷ encode (jobs (drop 1 front))
     front_laid =
-        let l = f.1.1.0 o in
+        let l = f.laid o in
         e ∙ ap (λ (x : List ℕ). x ++ encoded job) l ∙ ap (λ (x : List ℕ). (2 ^ 31 + steps) ∷ x) (sym (encode_push (held used ws) job) ∙ ap encode (sym front_jobs))
 
   -- a book after a new job's words
@@ -121,22 +121,15 @@ module _ (steps used : ℕ) (ws : List ℕ) (job : List ℕ) (o : Opens steps (l
       → 1 ≤ length job → length job ≤ 1000 → ((i : ℕ) → i < length (held used ws) → get_or (held used ws) i [] ≡ job → ⊥) → Facts steps used' ws'
   appended ws' used' len within e lo hi new =
       let js = held used ws in
-      let h : js ++ job ∷ [] ≡ held used' ws' = sym (front_jobs (take used' ws') e) in (
-        omega arith,
-        (
-          (λ nay. absurd (nay (subst (Opens steps) (sym len) o))),
-          (
-            (λ _. front_laid (take used' ws') e),
-            (
-              subst EachSized h (sized_push js job f.1.1.1.0 lo hi),
-              (
-                subst (EachStepped steps) h (stepped_push js job steps f.1.1.1.1.0 of),
-                (subst Apart h (apart_push js job f.1.1.1.1.1.0 new), tt),
-              ),
-            ),
-          ),
-        ),
-      )
+      let h : js ++ job ∷ [] ≡ held used' ws' = sym (front_jobs (take used' ws') e) in
+      record {
+        within = omega arith;
+        idle = λ nay. absurd (nay (subst (Opens steps) (sym len) o));
+        laid = λ _. front_laid (take used' ws') e;
+        sized = subst EachSized h (sized_push js job f.sized lo hi);
+        stepped = subst (EachStepped steps) h (stepped_push js job steps f.stepped of);
+        apart = subst Apart h (apart_push js job f.apart new);
+      }
 
   pub appended_held : (ws' : List ℕ) (used' : ℕ) → take used' ws' ≡ take used ws ++ encoded job → held used' ws' ≡ held used ws ++ job ∷ []
   appended_held ws' used' e = front_jobs (take used' ws') e
@@ -155,7 +148,7 @@ pub took : (ws : List ℕ) (i : ℕ) (s : List ℕ) (n : ℕ) → n ≡ i + leng
 took ws i s n e h = ap (λ (m : ℕ). take m (paste ws i s (length s))) e ∙ take-paste ws i s (length s) h (omega arith) ∙ ap (λ (x : List ℕ). take i ws ++ x) (take-length s)
 
 pub facts : (b : Book) → Facts b.steps b.used b.words.now
-facts b = (b.within, (b.idle, (b.laid, (b.sized, (b.stepped, (b.apart, tt))))))
+facts b = record { within = b.within; idle = b.idle; laid = b.laid; sized = b.sized; stepped = b.stepped; apart = b.apart }
 
 -- a turn of the search: from word i of the front on lie the jobs from n on
 module _ (front : List ℕ) (js : List (List ℕ)) (i n : ℕ) (e : drop i front ≡ encode (drop n js)) (lt : i < length front) where

@@ -1,5 +1,5 @@
 -- One event more of a job as step numbers. Assumes nothing.
-use Rattle.std.proofs.Common.{◌≡◌, ℕ, ◌+◌, ◌<◌, ◌≤◌, ◌≢◌, List, [], ◌∷◌, ◌++◌, map, length, get_or, take, set, Some, sym, refl, ap, ◌∙◌, subst, arith, below_more}
+use Rattle.std.proofs.Common.{◌≡◌, ℕ, ◌+◌, ◌<◌, ◌≢◌, List, [], ◌∷◌, ◌++◌, length, get_or, take, set, Some, sym, ap, ◌∙◌, subst, arith, below_more}
 use Rattle.std.proofs.lemmas.List.{take_more, take_more_set, map-append, get_or_read, get_or-set_same, get_or-set_other}
 use Rattle.steps.specs.declared.orders.Order.{Order}
 use Rattle.steps.specs.Orders.{OrderLaws}

@@ -1,5 +1,5 @@
 -- An entry has one answer, and leaves one list of jobs. Assumes nothing.
-use Rattle.std.proofs.Common.{◌≡◌, ℕ, ◌+◌, ◌<◌, ◌≤◌, List, [], length, get_or, Some, None, Ok, Err, Option, Result, sym, refl, ap, ◌∙◌, ⊎_elim, arith}
+use Rattle.std.proofs.Common.{◌≡◌, ℕ, ◌+◌, ◌<◌, ◌≤◌, List, length, Some, None, Ok, Err, Result, sym, refl, ap, ◌∙◌, ⊎_elim, arith}
 use Rattle.std.proofs.lemmas.List.{length-map}
 use Rattle.std.proofs.lemmas.Bool.{cases_order}
 use Rattle.steps.specs.declared.orders.Order.{Order}
@@ -8,12 +8,10 @@ use Rattle.steps.specs.Rosters.{FirstUnlisted, number_of, numbers}
 use Rattle.steps.proofs.Firsts.{unlisted_once}
 use Rattle.book.specs.declared.entries.Entry.{Entry}
 use Rattle.book.specs.declared.entries.Entry.TheVariants.{New, Held}
-use Rattle.book.specs.declared.faults.Void.{Void}
-use Rattle.book.specs.declared.faults.Void.TheVariants.{Steps, Memory}
 use Rattle.book.specs.declared.faults.EnterFault.{EnterFault}
 use Rattle.book.specs.declared.faults.EnterFault.TheVariants.{Void as IsVoid, Roster, Events, Room}
-use Rattle.book.specs.Enter.{Entered, HeldAt, VoidBy, unused}
-use Rattle.book.specs.Jobs.{Apart, Opens}
+use Rattle.book.specs.Enter.{Entered, HeldAt, unused}
+use Rattle.book.specs.Jobs.{Apart}
 use Rattle.book.proofs.Voids.{void_open, void_same}
 
 module _ {S : Type 0} (order : S → S → Order) (steps len : ℕ) (js : List (List ℕ)) (apart : Apart js) (roster job : List S) where

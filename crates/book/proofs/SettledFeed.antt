@@ -1,5 +1,5 @@
 -- A feed has one answer, and leaves one list of jobs and one trail. Assumes nothing.
-use Rattle.std.proofs.Common.{◌≡◌, ℕ, ◌+◌, ◌<◌, ◌≤◌, ◌⊎◌, List, [], ◌∷◌, ◌++◌, length, Ok, Err, Result, sym, refl, ap, ◌∙◌, subst, inl, inr, arith}
+use Rattle.std.proofs.Common.{◌≡◌, ℕ, ◌+◌, ◌<◌, ◌≤◌, ◌⊎◌, List, [], ◌∷◌, Ok, Err, Result, sym, refl, ap, ◌∙◌, subst, inl, inr, arith}
 use Rattle.steps.specs.declared.orders.Order.{Order}
 use Rattle.steps.specs.declared.faults.RosterFault.TheVariants.{Unfit, Unlisted}
 use Rattle.steps.specs.Rosters.{Fit, numbers}

@@ -1,5 +1,5 @@
 -- A feed after a feed is a feed of both
-use Rattle.std.proofs.Common.{◌≡◌, ℕ, ◌+◌, List, [], ◌∷◌, ◌++◌, Ok, Err, Result, sym, refl, ap, ◌∙◌, subst, inl, inr, arith}
+use Rattle.std.proofs.Common.{◌≡◌, ℕ, ◌+◌, List, [], ◌∷◌, ◌++◌, Ok, Err, Result, ap, subst, inl, inr, arith}
 use Rattle.steps.specs.declared.orders.Order.{Order}
 use Rattle.trails.specs.declared.endings.Ending.{Ending}
 use Rattle.trails.specs.declared.endings.Ending.TheVariants.{End, Fault}

@@ -1,4 +1,4 @@
-use Rattle.std.proofs.Common.{◌≡◌, ◌<◌, ◌≤◌, length, get_or, take, ap, ◌∙◌, subst, arith}
+use Rattle.std.proofs.Common.{◌≡◌, ◌<◌, length, take, ap, ◌∙◌, arith}
 use Rattle.std.proofs.lemmas.List.{length-set, length-take-le, take_all, get_or-take}
 use Rattle.steps.specs.Rosters.{numbers}
 use Rattle.book.proofs.Numbering.{numbers_more, listed_more, steps_more}
@@ -6,7 +6,7 @@ use Rattle.book.proofs.entering.number_events.Goals as goal
 
 pub loop-k-preserved : goal.loop-k-preserved
 loop-k-preserved g c =
-    let order = g.row.T-Step.order in
+    let order = g.T.Step.order in
     let laws = g.met.T.Step.lawful in
     let roster = c.args.roster.now.entries.now in
     let job = c.args.job.now in
@@ -23,7 +23,7 @@ loop-k-preserved g c =
 
 pub returns : goal.returns
 returns g c =
-    let order = g.row.T-Step.order in
+    let order = g.T.Step.order in
     let roster = c.args.roster.now.entries.now in
     let job = c.args.job.now in
     let out = c.loop-k.out in

@@ -1,12 +1,12 @@
-use Rattle.std.proofs.Common.{◌≡◌, ℕ, ◌+◌, ◌<◌, ◌≤◌, List, [], length, get_or, take, drop, arith, rules, below_more}
+use Rattle.std.proofs.Common.{◌≡◌, ◌<◌, ◌≤◌, [], length, get_or, take, arith, below_more}
 use Rattle.std.proofs.lemmas.List.{length-take-le}
 use Rattle.book.specs.Jobs.{held}
 use Rattle.book.proofs.Lay.{ended, t_more, t_head, t_room, t_next, t_same, t_other, t_longer}
 use Rattle.book.proofs.finding.find.Goals as goal
 use Rattle.book.proofs.finding.find.Goals.{else-len-job-via-then-len-job+else-same, else-len-job-via-else-len-job}
 
-pub overflow-sub-len : goal.overflow-sub-len
-overflow-sub-len c = omega (arith, t_head c.args.words.now c.args.used c.loop-at.at c.loop-at.n c.requires.within c.loop-at.invariant.0 c.loop-at-test.true)
+pub overflow_sub-len : goal.overflow_sub-len
+overflow_sub-len c = omega (arith, t_head c.args.words.now c.args.used c.loop-at.at c.loop-at.n c.requires.within c.loop-at.invariant.0 c.loop-at-test.true)
 
 pub same-requires : goal.same-requires
 same-requires c = omega (

@@ -1,4 +1,4 @@
-use Rattle.std.proofs.Common.{◌≡◌, ℕ, ◌+◌, ◌^◌, ◌<◌, List, ◌∷◌, ◌++◌, length, take, set, sym, refl, ap, ◌∙◌, subst, add-one, arith, rules}
+use Rattle.std.proofs.Common.{◌≡◌, ℕ, ◌+◌, ◌^◌, ◌<◌, List, ◌++◌, length, take, set, sym, refl, ap, ◌∙◌, subst, add-one, arith}
 use lib.Seq.{paste, paste-zero, paste-suc, length-paste}
 use Rattle.book.specs.Jobs.{encoded}
 use Rattle.book.proofs.Lay.{kept, Facts, facts, appended, appended_held, paste_head, took, used_is}
@@ -6,14 +6,14 @@ use Rattle.std.proofs.lemmas.List.{length-set}
 use Rattle.book.proofs.shape.Book.append.Goals as goal
 use Rattle.book.proofs.shape.Book.append.Goals.{After-loop-k}
 
-pub invariant-of-self : goal.invariant-of-self
-invariant-of-self c = kept _ _ c.args.self.now.words.now _ _ (omega arith) (facts c.args.self.now)
+pub invariant_of-self : goal.invariant_of-self
+invariant_of-self c = kept _ _ c.args.self.now.words.now _ _ (omega arith) (facts c.args.self.now)
 
 pub loop-k-init : goal.loop-k-init
 loop-k-init c = (paste-zero _ (c.args.self.now.used + 1) c.args.job.now, refl, refl, refl)
 
-pub invariant-of-self-in-loop-k : goal.invariant-of-self-in-loop-k
-invariant-of-self-in-loop-k c = kept _ _ c.loop-k.self.words.now _ _ (omega arith) (facts c.loop-k.self)
+pub invariant_of-self-in-loop-k : goal.invariant_of-self-in-loop-k
+invariant_of-self-in-loop-k c = kept _ _ c.loop-k.self.words.now _ _ (omega arith) (facts c.loop-k.self)
 
 pub loop-k-preserved : goal.loop-k-preserved
 loop-k-preserved c =
@@ -45,8 +45,8 @@ fronts c =
 as_long : (c : goal.After-loop-k) → length c.loop-k.self.words.now ≡ length c.args.self.now.words.now
 as_long c = ap length (wrote c) ∙ length-paste c.args.self.now.words.now c.args.self.now.used (encoded c.args.job.now) (length (encoded c.args.job.now)) (omega (arith, c.requires.room)) (omega arith)
 
-pub invariant-of-self-2 : goal.invariant-of-self-2
-invariant-of-self-2 c =
+pub invariant_of-self-2 : goal.invariant_of-self-2
+invariant_of-self-2 c =
     subst (λ (s : ℕ). Facts s (c.args.self.now.used + 1 + length c.args.job.now) c.loop-k.self.words.now) (sym c.loop-k.invariant.2)
     (appended c.args.self.now.steps c.args.self.now.used c.args.self.now.words.now c.args.job.now c.requires.open (facts c.args.self.now) c.requires.steps
     c.loop-k.self.words.now _ (as_long c) c.requires.room (fronts c) c.requires.sized.0 c.requires.sized.1 c.requires.new)

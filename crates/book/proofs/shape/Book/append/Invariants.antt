@@ -7,4 +7,4 @@ invariant-loop-k l =
     (l.self.words.now ≡ paste l.initial.self.words.now (l.at + 1) l.job l.k)
     × (l.self.used ≡ l.initial.self.used)
     × (l.self.steps ≡ l.initial.self.steps)
-    × (l.self.words.name ≡ l.initial.self.words.name)
+    × (l.self.words.ghost_name ≡ l.initial.self.words.ghost_name)

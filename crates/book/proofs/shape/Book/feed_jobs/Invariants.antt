@@ -1,8 +1,6 @@
-use Rattle.std.proofs.Common.{◌≡◌, ℕ, ◌+◌, ◌≤◌, List, length, Result}
-use Rattle.steps.specs.Rosters.{Fit}
+use Rattle.std.proofs.Common.{◌≡◌, ℕ, ◌+◌, List, length, Result}
 use Rattle.book.specs.declared.faults.FeedFault.{FeedFault}
 use Rattle.book.specs.Feed.{Feeds, laid}
-use Rattle.book.specs.Jobs.{Opens}
 use Rattle.book.specs.View.{held_by, memory_of}
 use Rattle.book.proofs.shape.Book.feed_jobs.Given as goal
 
@@ -11,7 +9,7 @@ abbrev pub invariant-loop-n : goal.invariant-loop-n
 invariant-loop-n g l =
     (l.self.steps ≡ l.initial.self.steps)
     × (length (memory_of l.self) ≡ length (memory_of l.initial.self))
-    × (l.self.words.name ≡ l.initial.self.words.name)
+    × (l.self.words.ghost_name ≡ l.initial.self.words.ghost_name)
     × (length l.work ≡ length l.initial.work)
     × (l.count + length (g.T.Trail.jobs l.trail) ≡ length (g.T.Trail.jobs l.initial.trail))
     × (g.T.Trail.ending l.trail ≡ g.T.Trail.ending l.initial.trail)
