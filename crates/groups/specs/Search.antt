@@ -1,5 +1,5 @@
 -- What the search has found, and what its steps add
-use Rattle.std.specs.Prelude.{◌≡◌, ℕ, ◌+◌, ◌^◌, ◌<◌, ◌≤◌, Bool, true, List, length, set, Result, MatchResult, bit_and, bit_or, slice_index, slice_set}
+use Rattle.std.specs.Prelude.{◌≡◌, ℕ, ◌+◌, ◌^◌, ◌<◌, ◌≤◌, Bool, true, List, length, Result, MatchResult, bit_and, bit_or, slice_index, slice_set}
 use Rattle.groups.specs.declared.faults.ListFault.{ListFault}
 use Rattle.groups.specs.declared.faults.ListFault.TheVariants.{TooMany}
 use Rattle.groups.specs.declared.found.Found.{Found}

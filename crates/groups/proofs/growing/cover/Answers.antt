@@ -13,7 +13,7 @@ returns c =
     let group = c.grown-group.result in
     let large = c.grown-group.ensures.largest in
     let inside = c.grown-group.ensures.holds in
-    let (one, two) = c.if-not-touches-both.ensures in
+    let (one, two) = c.if-not-touches_both.ensures in
     let fresh = c.if-has.ensures in
     MatchResult-weaker c.add.result c.add.ensures
     (λ _ added. covered_new pairs first second old c.requires.holds set group large inside one two fresh c.add.new.self added)

@@ -9,8 +9,8 @@ pub loop-p-init : goal.loop-p-init
 loop-p-init g c =
     (refl, refl, rw c.size-size.ensures.answer (g.met.B.Bond.few c.args.bond.now), refl, (λ k l. absurd (omega arith)), (λ k _. zeros 64 k))
 
-pub read-row-requires : goal.read-row-requires
-read-row-requires g c = record {
+pub read_row-requires : goal.read_row-requires
+read_row-requires g c = record {
   all = c.size-size.ensures.answer ∙ sym (c.loop-p.invariant.1 ∙ c.size-size.ensures.stays);
   few = c.loop-p.invariant.2;
 }
@@ -20,13 +20,13 @@ loop-p-preserved g c =
     let pairs = g.B.Bond.pairs c.size-size.new.self in
     let rows = c.loop-p.rows in
     let p = c.loop-p.p in
-    let x = c.read-row.result in
+    let x = c.read_row.result in
     let few = c.loop-p.invariant.2 in
     let long : p < length rows = (let e = c.loop-p.invariant.3 in omega arith) in
-    let row : Row pairs p x = rw c.loop-p.invariant.0 at c.read-row.ensures.row in
+    let row : Row pairs p x = rw c.loop-p.invariant.0 at c.read_row.ensures.row in
     let other : (k : ℕ) → k ≢ p → get_or (set rows p x) k 0 ≡ get_or rows k 0 = λ k ne. get_or-set_other rows p k x 0 ne in (
-      c.read-row.ensures.keeps ∙ c.loop-p.invariant.0,
-      c.read-row.ensures.stays ∙ c.loop-p.invariant.1,
+      c.read_row.ensures.keeps ∙ c.loop-p.invariant.0,
+      c.read_row.ensures.stays ∙ c.loop-p.invariant.1,
       few,
       length-set rows p x ∙ c.loop-p.invariant.3,
       below_more (λ k. Row pairs k (get_or (set rows p x) k 0)) p (λ k l. rw (other k (omega arith)) (c.loop-p.invariant.4 k l)) (rw (get_or-set_same rows p x 0 long) row),

@@ -19,7 +19,7 @@ loop-i-preserved c =
     let second = c.args.second in
     let a = c.loop-i.found in
     let b = c.turn.new.found in
-    let (holds, kept, at) = c.in-ok-turn.ensures in
+    let (holds, kept, at) = c.in_ok-turn.ensures in
     let more = kept.more in (
       holds,
       seeded_kept rows lawful first second a b 64 kept c.loop-i.invariant.1,

@@ -9,8 +9,8 @@ loop-u-preserved c =
     let second = c.args.second in
     let u = c.loop-u.u in
     let a = c.loop-u.found in
-    let b = c.seed-at.new.found in
-    let (holds, kept, at) = c.in-ok-seed-at.ensures in (
+    let b = c.seed_at.new.found in
+    let (holds, kept, at) = c.in_ok-seed_at.ensures in (
       holds,
       seeded_more rows lawful first second b u
           (seeded_kept rows lawful first second a b u kept c.loop-u.invariant.1) at,

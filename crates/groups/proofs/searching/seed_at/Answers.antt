@@ -6,7 +6,7 @@ use Rattle.groups.specs.Search.{Covered, two}
 use Rattle.groups.proofs.Holding.{kept_trans}
 use Rattle.groups.proofs.Turns.{two_paired, seeded_at, seeded_skip}
 use Rattle.groups.proofs.searching.seed_at.Goals as goal
-use Rattle.groups.proofs.searching.seed_at.Goals.{then-set-rows+then-set-rows-2+in-ok-cover, else-set-rows, else-set-rows-via-then-set-rows+else-set-rows-2, else-set-rows-via-else-set-rows}
+use Rattle.groups.proofs.searching.seed_at.Goals.{then-set-rows+then-set-rows-2+in_ok-cover, else-set-rows, else-set-rows-via-then-set-rows+else-set-rows-2, else-set-rows-via-else-set-rows}
 
 bits : (u v : ℕ) → u < 64 → v < 64 → bit_or ((1 * 2 ^ u) % 2 ^ 64) ((1 * 2 ^ v) % 2 ^ 64) ≡ two u v
 bits u v a b = ap₂ bit_or (one_shl u 64 a) (one_shl v 64 b)
@@ -34,9 +34,9 @@ loop-v-preserved c =
     let a = c.loop-v.found in
     let bit = bits u v c.requires.within c.loop-v-test.true in
     elim c.if-set-rows.branch [
-      | then-set-rows+then-set-rows-2+in-ok-cover w ↦ rw w.found-is (
+      | then-set-rows+then-set-rows-2+in_ok-cover w ↦ rw w.found-is (
           let b = w.cover.new.found in
-          let h : Covered (held rows) first second a b (two u v) = rw bit at w.in-ok-cover.ensures in (
+          let h : Covered (held rows) first second a b (two u v) = rw bit at w.in_ok-cover.ensures in (
             h.holds,
             kept_trans old a b c.loop-v.invariant.1 h.kept,
             seeded_at rows lawful first second a b u v h c.loop-v.invariant.2,

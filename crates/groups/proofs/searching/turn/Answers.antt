@@ -5,7 +5,7 @@ use Rattle.groups.specs.Search.{Covered, turned}
 use Rattle.groups.proofs.Holding.{kept_trans}
 use Rattle.groups.proofs.Turns.{turned_paired, closed_at, closed_skip}
 use Rattle.groups.proofs.searching.turn.Goals as goal
-use Rattle.groups.proofs.searching.turn.Goals.{then-set-rows+in-ok-cover, else-set-rows}
+use Rattle.groups.proofs.searching.turn.Goals.{then-set-rows+in_ok-cover, else-set-rows}
 
 pub cover-requires : goal.cover-requires
 cover-requires c =
@@ -29,9 +29,9 @@ loop-w-preserved c =
     let a = c.loop-w.found in
     let bit : (1 * 2 ^ x) % 2 ^ 64 ≡ 2 ^ x = one_shl x 64 c.loop-w-test.true in
     elim c.if-set-rows.branch [
-      | then-set-rows+in-ok-cover w ↦ rw w.found-is (
+      | then-set-rows+in_ok-cover w ↦ rw w.found-is (
           let b = w.cover.new.found in
-          let h : Covered (held rows) first second a b (turned rows g x) = rw bit at w.in-ok-cover.ensures in (
+          let h : Covered (held rows) first second a b (turned rows g x) = rw bit at w.in_ok-cover.ensures in (
             h.holds,
             kept_trans old a b c.loop-w.invariant.1 h.kept,
             closed_at rows lawful first second a b g x h c.loop-w.invariant.2,
