@@ -1,5 +1,5 @@
 -- The relations of steps. A step is a number, a job is a list of steps, and the jobs are those that a book holds.
-use Rattle.std.specs.Prelude.{ℕ, Bool, true, false, not, ◌&&◌, ◌||◌, List, [], ◌∷◌, map, filter, ◌==◌, nat_eq}
+use Rattle.std.specs.Prelude.{ℕ, Bool, false, not, ◌&&◌, ◌||◌, List, [], ◌∷◌, map, filter, ◌==◌, nat_eq}
 
 abbrev pub Jobs : Type 0
 Jobs = List (List ℕ)

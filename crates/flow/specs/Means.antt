@@ -1,6 +1,6 @@
 -- What each relation says, by positions in jobs
-use Rattle.std.specs.Prelude.{◌≡◌, ℕ, ◌+◌, ◌<◌, Bool, true, ◌⊎◌, List, [], length, get_or, Decides, ◌≢◌, slice_index_or}
-use Rattle.flow.specs.Flow.{Jobs, seen, follows, looping, reduced, stands, first, last, precedes, returns, turn, leads, unrelated, beside, feeds, before, after, only_before, only_after}
+use Rattle.std.specs.Prelude.{◌≡◌, ℕ, ◌+◌, ◌<◌, ◌⊎◌, [], length, get_or, Decides, ◌≢◌, slice_index_or}
+use Rattle.flow.specs.Flow.{Jobs, seen, looping, reduced, stands, first, last, precedes, turn, leads, unrelated, beside, feeds, before, after, only_before, only_after}
 
 -- the event k of the job i is the step s
 pub record At (js : Jobs) (i k s : ℕ) : Type 0 where

@@ -8,4 +8,4 @@ use Rattle.flow.proofs.reading.tally_held.Goals as goal
 pub returns : goal.returns
 returns c =
     let js = held_by c.args.book.now in
-    record { tally = subst (λ ks. Tallies (whole ks) c.tally-jobs.result) (without_none js) c.tally-jobs.ensures; means = means js }
+    record { tally = subst (λ ks. Tallies (whole ks) c.tally_jobs.result) (without_none js) c.tally_jobs.ensures; means = means js }

@@ -8,15 +8,15 @@ use Rattle.flow.proofs.reading.tally_jobs.Goals as goal
 
 pub loop-word-preserved : goal.loop-word-preserved
 loop-word-preserved c =
-    let words = c.job-words-words.result.now in
-    let left = c.args.left-out in
+    let words = c.job_words-words.result.now in
+    let left = c.args.left_out in
     let i = c.loop-word.word-index in
     subst (λ r. Tallies r c.word.new.self) (sym (fold_more (word_in left) (whole []) words i 0 c.loop-word-test.true))
     (tallies_word left _ c.loop-word.tally c.loop-word.invariant (get_or words i 0) c.word.new.self c.word.ensures)
 
 pub returns : goal.returns
 returns c =
-    let words = c.job-words-words.result.now in
+    let words = c.job_words-words.result.now in
     let tally = c.end.new.self in
-    tallies_whole c.args.book.now c.args.left-out _ tally (take_all c.loop-word.word-index words c.loop-word-test.false ∙ c.job-words-words.ensures)
+    tallies_whole c.args.book.now c.args.left_out _ tally (take_all c.loop-word.word-index words c.loop-word-test.false ∙ c.job_words-words.ensures)
     (tallies_end _ c.loop-word.tally c.loop-word.invariant tally c.end.ensures)
