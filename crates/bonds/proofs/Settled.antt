@@ -1,8 +1,5 @@
 -- A list of a book's bond has one answer
-use Rattle.std.proofs.Common.{◌≡◌, ℕ, Bool, List, Ok, Err, Result, sym, refl, ap, ◌∙◌}
-use Rattle.book.specs.Jobs.{Opens}
-use Rattle.book.specs.Enter.{VoidBy}
-use Rattle.book.specs.declared.faults.Void.{Void}
+use Rattle.std.proofs.Common.{◌≡◌, ℕ, Bool, List, Ok, Err, Result, sym, ap, ◌∙◌}
 use Rattle.groups.specs.declared.faults.ListFault.{ListFault}
 use Rattle.groups.specs.Told.{Told, OnlyTold}
 use Rattle.groups.proofs.Finish.{only_told}

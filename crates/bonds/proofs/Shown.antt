@@ -1,8 +1,7 @@
 -- The bonds by their rows are the bonds of the jobs
-use Rattle.std.proofs.Common.{◌≡◌, ℕ, Bool, true, false, cond, not, ◌&&◌, ◌||◌, eqb, List, [], ◌∷◌, map, filter, sym, refl, ap, ◌∙◌, ap₂, inl, inr, ⊎_elim}
-use Rattle.std.proofs.lemmas.Bool.{cases_Bool, cases_eq, cond-true, cond-false, eqb-true, ne_eqb}
-use Rattle.flow.specs.Bits.{bit, row}
-use Rattle.flow.specs.Flow.{Jobs, has, some, seen, looping, stands, leads_of, unrelated_of, beside_of}
+use Rattle.std.proofs.Common.{◌≡◌, ℕ, Bool, true, false, not, ◌&&◌, ◌||◌, eqb, List, [], ◌∷◌, map, filter, sym, refl, ap, ◌∙◌, ap₂, ⊎_elim}
+use Rattle.std.proofs.lemmas.Bool.{cases_Bool, cond-true, cond-false, eqb-true}
+use Rattle.flow.specs.Flow.{Jobs, has, seen, looping, stands, leads_of, unrelated_of, beside_of}
 use Rattle.flow.specs.Rows.{Shows, stands_by}
 use Rattle.flow.specs.declared.relations.Relations.{Relations}
 use Rattle.bonds.specs.Pairs.{place_pairs, place_points, places_by, side_pairs, side_points, sides_by}

@@ -1,4 +1,4 @@
-use Rattle.std.proofs.Common.{◌≡◌, length, ◌∙◌}
+use Rattle.std.proofs.Common.{length, ◌∙◌}
 use Rattle.book.specs.View.{held_by, memory_of}
 use Rattle.bonds.specs.Pairs.{side_pairs}
 use Rattle.bonds.proofs.Openings.{of_open_lem}
