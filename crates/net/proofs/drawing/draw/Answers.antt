@@ -7,6 +7,6 @@ pub returns : goal.returns
 returns c =
     let book = c.args.book.now in
     record {
-      drew = c.draw-net.ensures;
-      only = only_drew book.steps (length (memory_of book)) (held_by book) c.args.out.now c.draw-net.new.out c.draw-net.result c.draw-net.ensures;
+      drew = c.draw_net.ensures;
+      only = only_drew book.steps (length (memory_of book)) (held_by book) c.args.out.now c.draw_net.new.out c.draw_net.result c.draw_net.ensures;
     }

@@ -6,8 +6,8 @@ use Rattle.net.proofs.Seated.{seats_pass, seats_take}
 use Rattle.net.proofs.seating.find_seats.Goals as goal
 use Rattle.net.proofs.seating.find_seats.Goals.{then-has+in-Some, else-has}
 
-pub overflow-cast-seats : goal.overflow-cast-seats
-overflow-cast-seats c =
+pub overflow_cast-seats : goal.overflow_cast-seats
+overflow_cast-seats c =
     let test = sits_by c.args.relations.now c.loop-t.t in
     let places = c.args.places.now in
     let p = some_first test places c.in-Some.number c.in-Some.ensures in

@@ -22,8 +22,8 @@ loop-k-preserved c =
     let g = get_or places c.loop-k.k 0 in
     none_more (between (bit from) (bit to)) places c.loop-k.k c.loop-k-test.true c.loop-k.invariant
     (elim c.else-feeders-from.branch [
-      | else-feeders-from-via-then-feeders-from+else-fed-to w ↦ high_other g from to w.fed.result w.fed.type-inv c.ranges.to.fits w.fed.ensures w.if-fed-to.false
-      | else-feeders-from-via-else-feeders-from w ↦ low_other g from to c.feeders.result c.feeders.type-inv c.ranges.from.fits c.feeders.ensures w.if-feeders-from.false
+      | else-feeders-from-via-then-feeders-from+else-fed-to w ↦ high_other g from to w.fed.result w.fed.type_inv c.ranges.to.fits w.fed.ensures w.if-fed-to.false
+      | else-feeders-from-via-else-feeders-from w ↦ low_other g from to c.feeders.result c.feeders.type_inv c.ranges.from.fits c.feeders.ensures w.if-feeders-from.false
     ])
 
 pub returns : goal.returns

@@ -9,8 +9,8 @@ loop-k-init c = (rw groups_none (puts_none c.args.out.now c.args.at), omega arit
 
 pub loop-k-preserved : goal.loop-k-preserved
 loop-k-preserved c = (
-  rw (groups_more c.args.places.now c.loop-k.k c.loop-k-test.true) (puts_more c.loop-k.invariant.0 c.put-place-end.ensures.puts),
-  omega (arith, c.loop-k.invariant.1, c.put-place-end.ensures.few),
+  rw (groups_more c.args.places.now c.loop-k.k c.loop-k-test.true) (puts_more c.loop-k.invariant.0 c.put_place-end.ensures.puts),
+  omega (arith, c.loop-k.invariant.1, c.put_place-end.ensures.few),
 )
 
 pub returns : goal.returns
