@@ -11,7 +11,7 @@ use Rattle.flow.specs.Flow.{Jobs, some, seen, first, last, looping, only_before,
 use Rattle.flow.specs.Facts.{Agree}
 use Rattle.flow.proofs.Bits.{alike}
 use Rattle.bonds.specs.Pairs.{place_pairs, feeder_mark, fed_mark}
-use Rattle.net.specs.Net.{Net, Places, Draws, Seated, net, words, place, sits, position, those, same}
+use Rattle.net.specs.Net.{Net, Places, Draws, Seated, net, words, place, sits, position, those}
 use Rattle.net.specs.Draw.{Drew, LowestUnseated}
 use Rattle.net.specs.declared.faults.DrawFault.{DrawFault}
 use Rattle.net.specs.declared.faults.DrawFault.TheVariants.{Void, TooMany, Unseated, TooShort}

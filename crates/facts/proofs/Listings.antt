@@ -7,7 +7,6 @@ use Rattle.groups.specs.Listings.{Listing}
 use Rattle.groups.specs.Rows.{Lawful, Row}
 use Rattle.groups.proofs.Sets.{empty, in_or_l, in_or_r, or_in, in_one, one_in}
 use Rattle.groups.proofs.Grow.{Growing, grow_start, grow_add, grow_skip, grow_end}
-use Rattle.groups.proofs.Listings.{one_listing}
 
 -- one more point, or another
 pub or_one : (g x p : ℕ) → In (bit_or g (2 ^ x)) p → In g p ⊎ (x ≡ p)
