@@ -11,7 +11,7 @@ use Rattle.flow.specs.Bits.{bit}
 use Rattle.flow.specs.Flow.{Jobs, seen, first, last, looping}
 use Rattle.flow.proofs.Bits.{in_bit}
 use Rattle.bonds.specs.Pairs.{fed_mark}
-use Rattle.net.specs.Net.{Place, Draws, steps, those, place, net, word, words, place_words, places_words, loop_word, sits, position}
+use Rattle.net.specs.Net.{Place, Draws, steps, those, place, net, word, place_words, places_words, loop_word, sits, position}
 use Rattle.net.specs.Draw.{Drew}
 use Rattle.net.specs.declared.faults.DrawFault.{DrawFault}
 use Rattle.net.specs.declared.faults.DrawFault.TheVariants.{Void, TooMany, Unseated, TooShort}

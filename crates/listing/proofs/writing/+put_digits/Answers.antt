@@ -15,7 +15,7 @@ returns t c =
           let p = puts_digit n [] c.ranges.n.fits (decimal_digit n w.if-n-lt10.true ∙ ap (λ d. (48 + d) ∷ []) (omega arith)) before c.put.ensures in
           record { puts = p.0; few = p.1 }
       | else-n-lt10 w ↦
-          let before : Puts c.args.out.now c.args.at (decimal (n / 10)) c.if-n-lt10.out c.if-n-lt10.end = rw (w.out-is, w.end-is) w.put-digits-end.ensures.puts in
+          let before : Puts c.args.out.now c.args.at (decimal (n / 10)) c.if-n-lt10.out c.if-n-lt10.end = rw (w.out-is, w.end-is) w.put_digits-end.ensures.puts in
           let p = puts_digit n (decimal (n / 10)) c.ranges.n.fits (decimal_step n w.if-n-lt10.false (omega arith)) before c.put.ensures in
           record { puts = p.0; few = p.1 }
     ]

@@ -11,16 +11,16 @@ pub returns-in-4 : goal.returns-in-4
 returns-in-4 c =
     let names = map name_text c.args.names.now in
     record {
-      puts = puts_same (sym (ap (λ k. body names k c.args.x) c.in-4.is ∙ number_text names c.args.x)) c.put-number.ensures.puts;
-      few = omega (arith, c.put-number.ensures.few);
+      puts = puts_same (sym (ap (λ k. body names k c.args.x) c.in-4.is ∙ number_text names c.args.x)) c.put_number.ensures.puts;
+      few = omega (arith, c.put_number.ensures.few);
     }
 
 pub returns-in-7 : goal.returns-in-7
 returns-in-7 c =
     let names = map name_text c.args.names.now in
     record {
-      puts = puts_same (sym (ap (λ k. body names k c.args.x) c.in-7.is ∙ loop_text names c.args.x)) (puts_more c.put-name-end.ensures.puts c.put-number-in-7.ensures.puts);
-      few = omega (arith, c.put-name-end.ensures.few, c.put-number-in-7.ensures.few);
+      puts = puts_same (sym (ap (λ k. body names k c.args.x) c.in-7.is ∙ loop_text names c.args.x)) (puts_more c.put_name-end.ensures.puts c.put_number-in-7.ensures.puts);
+      few = omega (arith, c.put_name-end.ensures.few, c.put_number-in-7.ensures.few);
     }
 
 pub returns-in-8 : goal.returns-in-8
@@ -31,11 +31,11 @@ returns-in-8 c =
       few = omega arith;
     }
 
-pub returns-in-default : goal.returns-in-default
-returns-in-default c =
+pub returns-in_default : goal.returns-in_default
+returns-in_default c =
     let names = map name_text c.args.names.now in
     let k = c.args.kind in
     record {
-      puts = puts_same (sym (name_text_lem names k c.args.x (ne_eqb k 4 (λ e. omega arith), ne_eqb k 7 (λ e. omega arith), ne_eqb k 8 (λ e. omega arith)))) c.put-name.ensures.puts;
-      few = omega (arith, c.put-name.ensures.few);
+      puts = puts_same (sym (name_text_lem names k c.args.x (ne_eqb k 4 (λ e. omega arith), ne_eqb k 7 (λ e. omega arith), ne_eqb k 8 (λ e. omega arith)))) c.put_name.ensures.puts;
+      few = omega (arith, c.put_name.ensures.few);
     }

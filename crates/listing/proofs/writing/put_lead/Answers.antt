@@ -7,8 +7,8 @@ use Rattle.listing.proofs.writing.put_lead.Goals as goal
 pub returns : goal.returns
 unfolding lead
 returns c = record {
-  puts = puts_more (puts_same (ap (λ b. due b (10 ∷ codes "FIRST")) c.begins.ensures) c.put-due-first.ensures.puts)
-      (puts_more (puts_same (ap (λ b. due b (10 ∷ codes "LAST")) c.begins-2.ensures) c.put-due-last.ensures.puts)
-      (puts_same c.mark.ensures.text c.put-text.ensures));
-  few = omega (arith, c.put-due-first.ensures.few, c.put-due-last.ensures.few, c.mark.ensures.few, c.put-text.ensures.ends);
+  puts = puts_more (puts_same (ap (λ b. due b (10 ∷ codes "FIRST")) c.begins.ensures) c.put_due-first.ensures.puts)
+      (puts_more (puts_same (ap (λ b. due b (10 ∷ codes "LAST")) c.begins-2.ensures) c.put_due-last.ensures.puts)
+      (puts_same c.mark.ensures.text c.put_text.ensures));
+  few = omega (arith, c.put_due-first.ensures.few, c.put_due-last.ensures.few, c.mark.ensures.few, c.put_text.ensures.ends);
 }

@@ -11,8 +11,8 @@ returns-then-step-names c =
     let named = c.index-names-step.result in
     let text = sym (get_or-map name_text names c.args.step named [] c.if-step-names.true ∙ ap name_text (sym c.index-names-step.is)) in
     record {
-      puts = puts_more (puts_word c.put.ensures refl) (puts_same (c.text.ensures.0 ∙ text) c.put-text.ensures);
-      few = omega (arith, c.text.ensures.1, c.put-text.ensures.ends);
+      puts = puts_more (puts_word c.put.ensures refl) (puts_same (c.text.ensures.0 ∙ text) c.put_text.ensures);
+      few = omega (arith, c.text.ensures.1, c.put_text.ensures.ends);
     }
 
 pub returns-else-step-names : goal.returns-else-step-names

@@ -4,4 +4,4 @@ use Rattle.listing.proofs.writing.put_page.Goals as goal
 
 pub returns : goal.returns
 unfolding paged
-returns c = puts_more c.put-text-end.ensures c.put-words.ensures
+returns c = puts_more c.put_text-end.ensures c.put_words.ensures

@@ -6,6 +6,6 @@ use Rattle.listing.proofs.writing.put_word.Goals as goal
 pub returns : goal.returns
 unfolding piece
 returns c = record {
-  puts = puts_more c.put-lead-end.ensures.puts c.put-body.ensures.puts;
-  few = omega (arith, c.put-lead-end.ensures.few, c.put-body.ensures.few);
+  puts = puts_more c.put_lead-end.ensures.puts c.put_body.ensures.puts;
+  few = omega (arith, c.put_lead-end.ensures.few, c.put_body.ensures.few);
 }
