@@ -1,5 +1,5 @@
 ghost use Rattle.std.specs.Prelude.{◌/◌, ◌^◌, ◌≤◌, ◌&&◌, ◌||◌, ◌==◌, bit_and, nat_lt, slice_index};
-ghost use Rattle.std.proofs.Common.{rules, arith};
+ghost use Rattle.groups_tests.specs.Laws.{below_size, either_way};
 
 use groups::Bond;
 
@@ -41,11 +41,11 @@ impl Bond for Drawn {
 
     ghost pairs = { λ s p q. nat_lt p s.size && (nat_lt q s.size && (bit_and (slice_index s.rows p / 2 ^ q) 1 == 1 || bit_and (slice_index s.rows q / 2 ^ p) 1 == 1)) };
 
-    ghost few = { first_of (Prim.search rules, Prim.grind (arith, Self.row.coded.inj)) };
+    ghost few = { λ s. s.few };
 
-    ghost symmetric = { first_of (Prim.search rules, Prim.grind (arith, Self.row.coded.inj)) };
+    ghost symmetric = { λ s p q. either_way (nat_lt p s.size) (nat_lt q s.size) (bit_and (slice_index s.rows p / 2 ^ q) 1 == 1) (bit_and (slice_index s.rows q / 2 ^ p) 1 == 1) };
 
-    ghost lacks = { first_of (Prim.search rules, Prim.grind (arith, Self.row.coded.inj)) };
+    ghost lacks = { λ s p q. below_size p s.size _ };
 
     fn size(&mut self) -> usize {
         self.size

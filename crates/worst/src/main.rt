@@ -2,7 +2,7 @@
 #![tactic(auto)]
 
 ghost use Rattle.std.specs.Prelude.{◌/◌, ◌<◌, ◌≤◌, not, ◌&&◌, ◌||◌, ◌==◌, nat_le, nat_lt};
-ghost use Rattle.std.proofs.Common.{rules, arith};
+ghost use Rattle.worst.specs.Laws.{below_size, either_way, same_either_way};
 
 use groups::{Bond, ListFault, list_groups};
 use std::io;
@@ -37,11 +37,11 @@ impl Bond for Blocks {
 
     ghost pairs = { λ s p q. nat_lt p s.size && (nat_lt q s.size && (p == q || (nat_le s.blocked p || (nat_le s.blocked q || not (p / s.block == q / s.block))))) };
 
-    ghost few = { first_of (Prim.search rules, Prim.grind (arith, Self.row.coded.inj)) };
+    ghost few = { λ s. s.few };
 
-    ghost symmetric = { first_of (Prim.search rules, Prim.grind (arith, Self.row.coded.inj)) };
+    ghost symmetric = { λ s p q. either_way (nat_lt p s.size) (nat_lt q s.size) (p == q) (q == p) (nat_le s.blocked p) (nat_le s.blocked q) (p / s.block == q / s.block) (q / s.block == p / s.block) (same_either_way p q) (same_either_way (p / s.block) (q / s.block)) };
 
-    ghost lacks = { first_of (Prim.search rules, Prim.grind (arith, Self.row.coded.inj)) };
+    ghost lacks = { λ s p q. below_size p s.size _ };
 
     fn size(&mut self) -> usize {
         self.size
