@@ -7,19 +7,19 @@ use Rattle.words.proofs.Turns.{ahead, scan_end, at_word}
 use Rattle.words.proofs.reader.read_job.Goals as goal
 
 pub returns-in-Close : goal.returns-in-Close
-returns-in-Close c = at_word _ _ _ _ _ _ _ c.loop-i.invariant.2 c.loop-i-test.true c.word-of.ensures c.in-Close.ensures
+returns-in-Close c = at_word _ _ _ _ _ _ _ c.loop-i.invariant.2 c.loop-i-test.true c.word_of.ensures c.in-Close.ensures
 
 pub returns-in-Wrong : goal.returns-in-Wrong
-returns-in-Wrong c = at_word _ _ _ _ _ _ _ c.loop-i.invariant.2 c.loop-i-test.true c.word-of.ensures c.in-Wrong.ensures
+returns-in-Wrong c = at_word _ _ _ _ _ _ _ c.loop-i.invariant.2 c.loop-i-test.true c.word_of.ensures c.in-Wrong.ensures
 
 pub returns-in-Last : goal.returns-in-Last
 returns-in-Last c =
     let l = c.loop-i in
-    let one : l.due ≡ 1 = ahead c.word-of.result l.due (Last c.in-Last.code) c.in-Last.ensures in
+    let one : l.due ≡ 1 = ahead c.word_of.result l.due (Last c.in-Last.code) c.in-Last.ensures in
     let within : l.had < length l.work = omega arith in (
       omega arith,
       omega arith,
-      at_word _ _ _ _ _ _ _ l.invariant.2 c.loop-i-test.true c.word-of.ensures c.in-Last.ensures
+      at_word _ _ _ _ _ _ _ l.invariant.2 c.loop-i-test.true c.word_of.ensures c.in-Last.ensures
           ∙ ap (λ j. first j (from c.args.words.now (l.i + 1))) (sym (take_more_set l.work l.had c.in-Last.code within)),
     )
 
@@ -30,19 +30,19 @@ loop-i-preserved c =
     elim c.match-judge.branch [
       | goal.in-Skip w ↦
           rw (w.work-is, w.due-is, w.had-is)
-          (l.invariant.0, l.invariant.1, at_word _ _ _ _ _ _ _ l.invariant.2 c.loop-i-test.true c.word-of.ensures w.in-Skip.ensures)
+          (l.invariant.0, l.invariant.1, at_word _ _ _ _ _ _ _ l.invariant.2 c.loop-i-test.true c.word_of.ensures w.in-Skip.ensures)
       | goal.in-Open w ↦
-          let o = ahead c.word-of.result l.due (Open w.in-Open.n) w.in-Open.ensures in
+          let o = ahead c.word_of.result l.due (Open w.in-Open.n) w.in-Open.ensures in
           let none : l.had ≡ 0 = l.invariant.1 o.0 in
           rw (w.work-is, w.due-is, w.had-is, none)
-          (omega (arith, o.2), λ _. refl, at_word _ _ _ _ _ _ _ l.invariant.2 c.loop-i-test.true c.word-of.ensures w.in-Open.ensures)
+          (omega (arith, o.2), λ _. refl, at_word _ _ _ _ _ _ _ l.invariant.2 c.loop-i-test.true c.word_of.ensures w.in-Open.ensures)
       | goal.in-Take w ↦
-          let many : 1 < l.due = ahead c.word-of.result l.due (Take w.in-Take.code) w.in-Take.ensures in
+          let many : 1 < l.due = ahead c.word_of.result l.due (Take w.in-Take.code) w.in-Take.ensures in
           let within : l.had < length l.work = omega arith in
           rw (w.work-is, w.due-is, w.had-is) (
             omega arith,
             λ z. omega arith,
-            at_word _ _ _ _ _ _ _ l.invariant.2 c.loop-i-test.true c.word-of.ensures w.in-Take.ensures
+            at_word _ _ _ _ _ _ _ l.invariant.2 c.loop-i-test.true c.word_of.ensures w.in-Take.ensures
                 ∙ ap (scan (drop (l.i + 1) ws) (l.i + 1) (l.due - 1)) (sym (take_more_set l.work l.had w.in-Take.code within)),
           )
     ]
@@ -52,4 +52,4 @@ returns c =
     let l = c.loop-i in
     let ws = c.args.words.now in
     let last : l.i ≡ length ws = omega arith in
-    l.invariant.2 ∙ scan_end ws l.i l.due (take l.had l.work) (omega arith) ∙ ap (λ i. over (ran_out i)) last ∙ ap over (sym c.run-out.ensures)
+    l.invariant.2 ∙ scan_end ws l.i l.due (take l.had l.work) (omega arith) ∙ ap (λ i. over (ran_out i)) last ∙ ap over (sym c.run_out.ensures)
