@@ -1,8 +1,8 @@
 -- What a byte is, by what it is told to be. Assumes nothing.
-use Rattle.std.proofs.Common.{◌≡◌, ℕ, Bool, true, false, cond, ◌&&◌, eqb, List, [], ◌∷◌, ◌++◌, sym, refl, ap, ◌∙◌, arith}
+use Rattle.std.proofs.Common.{◌≡◌, ℕ, Bool, true, false, cond, eqb, List, [], ◌∷◌, ◌++◌, refl}
 use Rattle.std.proofs.lemmas.Bool.{eqb-true, and_parts, and_from}
 use Rattle.steps.specs.Ranges.{name_byte, name_bytes}
-use Rattle.texts.specs.Tokens.{Byte, letter, space, line_end, odd, byte_of}
+use Rattle.texts.specs.Tokens.{letter, space, line_end, odd, byte_of}
 
 told_letter : (x y z : Bool) → cond x letter (cond y space (cond z line_end odd)) ≡ letter → x ≡ true
 told_letter true y z e = refl

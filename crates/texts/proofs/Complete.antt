@@ -1,10 +1,9 @@
 -- A reading of a text is what its scan tells. Assumes nothing.
-use Rattle.std.proofs.Common.{◌≡◌, ℕ, suc, ◌+◌, ◌<◌, ◌≤◌, Bool, true, false, cond, ◌&&◌, ltb, ◌⊎◌, List, [], ◌∷◌, ◌++◌, length, get_or, take, drop, sym, refl, ap, ◌∙◌, subst, inl, inr, ⊎_elim, append_assoc, append-nil, arith}
+use Rattle.std.proofs.Common.{◌≡◌, ℕ, suc, ◌+◌, ◌<◌, ◌≤◌, true, cond, ltb, ◌⊎◌, List, [], ◌∷◌, ◌++◌, length, get_or, take, drop, sym, refl, ap, ◌∙◌, inl, inr, ⊎_elim, append_assoc, append-nil, arith}
 use Rattle.std.proofs.lemmas.List.{length-append, length_push, length-take-le, take-append-drop, take_at, drop_at}
 use Rattle.std.proofs.lemmas.Bool.{cond-false, le-ltb, and_parts, cases_lt}
 use Rattle.steps.specs.declared.names.Name.{Name}
 use Rattle.steps.specs.Kinds.{name_text}
-use Rattle.steps.specs.Making.{name_of}
 use Rattle.steps.specs.Ranges.{name_byte, name_bytes}
 use Rattle.steps.proofs.Naming.{name_of_name}
 use Rattle.trails.specs.declared.endings.Cause.{Cause}
@@ -12,11 +11,11 @@ use Rattle.trails.specs.declared.endings.Cause.TheVariants.{OutOfTurn, JobSize, 
 use Rattle.trails.specs.declared.endings.Ending.{Ending}
 use Rattle.trails.specs.declared.endings.Ending.TheVariants.{End, Fault}
 use Rattle.trails.specs.Jobs.{SizedTo}
-use Rattle.trails.specs.Told.{Told, faulty, ended, first, after}
+use Rattle.trails.specs.Told.{Told, faulty, first, after}
 use Rattle.texts.specs.Tokens.{letter, space, line_end, odd, run}
-use Rattle.texts.specs.Scan.{turn, stop, scan}
+use Rattle.texts.specs.Scan.{turn, scan}
 use Rattle.texts.specs.Sizes.{Fits}
-use Rattle.texts.specs.Reading.{spaced, line, written, Reached, Stands, ReadingTo}
+use Rattle.texts.specs.Reading.{spaced, line, written, Stands, ReadingTo}
 use Rattle.texts.proofs.Turns.{scan_letters, space_turn, line_turn, ninth_turn, cut, scan_at, scan_end}
 
 run_exact : (xs q : List ℕ) → name_bytes xs ≡ true → run (length xs) (xs ++ q) ≡ length xs

@@ -1,16 +1,14 @@
 -- A line as far as it was read, token by token. Assumes nothing.
-use Rattle.std.proofs.Common.{◌≡◌, ℕ, ◌+◌, ◌-◌, ◌<◌, ◌≤◌, Bool, true, false, ltb, ◌⊎◌, List, [], ◌∷◌, ◌++◌, length, get_or, take, drop, set, sym, refl, ap, ◌∙◌, subst, inl, inr, ⊎_elim, arith, Bor}
-use Rattle.std.proofs.lemmas.List.{drop-drop, length-drop, length_push, length-take-le, get_or-drop, take_more_set}
+use Rattle.std.proofs.Common.{◌≡◌, ℕ, ◌+◌, ◌<◌, ◌≤◌, Bool, true, false, ltb, List, [], ◌∷◌, ◌++◌, length, get_or, take, drop, set, sym, refl, ap, ◌∙◌, subst, inl, inr, ⊎_elim, arith, Bor}
+use Rattle.std.proofs.lemmas.List.{drop-drop, length-drop, length-take-le, get_or-drop, take_more_set}
 use Rattle.std.proofs.lemmas.Bool.{cond-false, le-ltb, cases_lt}
 use Rattle.steps.specs.declared.names.Name.{Name}
 use Rattle.steps.specs.Kinds.{name_text}
 use Rattle.steps.specs.Making.{name_of}
-use Rattle.steps.specs.Ranges.{IsName, name_byte, name_bytes}
+use Rattle.steps.specs.Ranges.{IsName, name_byte}
 use Rattle.steps.proofs.Naming.{name_of_name}
 use Rattle.trails.specs.declared.endings.Cause.{Cause}
 use Rattle.trails.specs.declared.endings.Cause.TheVariants.{JobSize, OddByte, NinthByte, NameDue, CutLine}
-use Rattle.trails.specs.declared.endings.Ending.{Ending}
-use Rattle.trails.specs.declared.endings.Ending.TheVariants.{Fault}
 use Rattle.trails.specs.Told.{Told, faulty, ended, first}
 use Rattle.texts.specs.declared.tokens.Token.{Token}
 use Rattle.texts.specs.declared.tokens.Token.TheVariants as token
@@ -18,7 +16,7 @@ use Rattle.texts.specs.declared.verdicts.Verdict.{Verdict}
 use Rattle.texts.specs.declared.verdicts.Verdict.TheVariants.{Take, Gap, Close, Stop}
 use Rattle.texts.specs.Tokens.{letter, space, line_end, odd, byte_of, run, Read}
 use Rattle.texts.specs.Verdicts.{Judged, Spelled, Faults, Takes}
-use Rattle.texts.specs.Scan.{turn, stop, scan, from}
+use Rattle.texts.specs.Scan.{stop, scan, from}
 use Rattle.texts.proofs.Runs.{Running, running, run_starts}
 use Rattle.texts.proofs.Turns.{is_letter, scan_letters, space_turn, line_turn, ninth_turn, cut, scan_at, scan_end}
 

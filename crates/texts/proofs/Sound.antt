@@ -1,22 +1,21 @@
 -- What the scan of a text tells is a reading of it. Assumes nothing.
-use Rattle.std.proofs.Common.{◌≡◌, ℕ, ◌+◌, ◌<◌, ◌≤◌, Bool, true, false, cond, ◌&&◌, eqb, ltb, ◌⊎◌, List, [], ◌∷◌, ◌++◌, length, get_or, take, drop, sym, refl, ap, ◌∙◌, subst, inl, inr, append_assoc, append-nil, arith}
+use Rattle.std.proofs.Common.{◌≡◌, ℕ, ◌+◌, ◌<◌, ◌≤◌, true, ltb, List, [], ◌∷◌, ◌++◌, length, get_or, sym, refl, ap, ◌∙◌, subst, inl, inr, append_assoc, append-nil, arith}
 use Rattle.std.proofs.lemmas.List.{length_push, length-append, take_at, get_or_at}
-use Rattle.std.proofs.lemmas.Bool.{cond_both, ltb-true, ltb-false, and_from}
+use Rattle.std.proofs.lemmas.Bool.{cond_both, ltb-true, ltb-false}
 use Rattle.steps.specs.declared.names.Name.{Name}
 use Rattle.steps.specs.Kinds.{name_text}
 use Rattle.steps.specs.Making.{name_of}
-use Rattle.steps.specs.Ranges.{IsName, name_byte, name_bytes}
+use Rattle.steps.specs.Ranges.{name_byte, name_bytes}
 use Rattle.steps.proofs.Naming.{name_of_text}
 use Rattle.trails.specs.declared.endings.Cause.{Cause}
 use Rattle.trails.specs.declared.endings.Cause.TheVariants.{JobSize, OddByte, NinthByte, NameDue, CutLine}
-use Rattle.trails.specs.declared.endings.Ending.{Ending}
 use Rattle.trails.specs.Jobs.{SizedTo}
-use Rattle.trails.specs.Told.{Told, faulty, ended, first, after}
+use Rattle.trails.specs.Told.{Told, faulty}
 use Rattle.trails.proofs.Sizes.{sized_push}
 use Rattle.texts.specs.Tokens.{Byte, letter, space, line_end, odd, byte_of}
 use Rattle.texts.specs.Scan.{turn, stop, scan}
 use Rattle.texts.specs.Sizes.{Fits}
-use Rattle.texts.specs.Reading.{spaced, line, written, Reached, Stands, ReadingTo}
+use Rattle.texts.specs.Reading.{spaced, written, Reached, Stands, ReadingTo}
 use Rattle.texts.proofs.Bytes.{letter_is, space_is, line_end_is, name_bytes_push}
 use Rattle.texts.proofs.Written.{spaced_push, line_push, written_push}
 

@@ -1,20 +1,17 @@
 -- A fault stands where a text first goes wrong. Assumes nothing.
-use Rattle.std.proofs.Common.{◌≡◌, ℕ, ◌+◌, ◌<◌, ◌≤◌, ◌⊎◌, List, [], ◌∷◌, ◌++◌, length, get_or, take, drop, sym, refl, ap, ◌∙◌, subst, inl, inr, ⊎_elim, append_assoc, append-nil, arith}
-use Rattle.std.proofs.lemmas.List.{length-append, length_push, length-take-le, take_at, take-take, take_all, get_or-take}
+use Rattle.std.proofs.Common.{◌≡◌, ℕ, ◌+◌, ◌<◌, ◌≤◌, List, [], ◌∷◌, ◌++◌, length, get_or, take, sym, refl, ap, ◌∙◌, inl, inr, append_assoc, append-nil, arith}
+use Rattle.std.proofs.lemmas.List.{length-append, length_push, length-take-le, take_at, take-take, get_or-take}
 use Rattle.steps.specs.declared.names.Name.{Name}
 use Rattle.steps.specs.Kinds.{name_text}
 use Rattle.steps.specs.Making.{name_of}
 use Rattle.steps.proofs.Naming.{name_of_text}
 use Rattle.trails.specs.declared.endings.Cause.{Cause}
 use Rattle.trails.specs.declared.endings.Cause.TheVariants.{OutOfTurn, JobSize, WordsRunOut, EndBits, OddByte, NinthByte, NameDue, CutLine}
-use Rattle.trails.specs.declared.endings.Ending.{Ending}
 use Rattle.trails.specs.declared.endings.Ending.TheVariants.{End, Fault}
 use Rattle.trails.specs.declared.endings.TrailFault.{TrailFault}
-use Rattle.trails.specs.Jobs.{Sized, SizedTo}
 use Rattle.trails.proofs.Sizes.{sized_push, sized_more}
-use Rattle.texts.specs.Tokens.{byte_of, letter}
-use Rattle.texts.specs.Sizes.{Fits}
-use Rattle.texts.specs.Reading.{spaced, line, written, Reached, Stands, ReadingTo, Reading, Viable, FirstStuck}
+use Rattle.texts.specs.Tokens.{byte_of}
+use Rattle.texts.specs.Reading.{spaced, written, Reached, Stands, ReadingTo, Reading, Viable, FirstStuck}
 use Rattle.texts.proofs.Written.{line_push, written_push}
 use Rattle.texts.proofs.Complete.{complete}
 

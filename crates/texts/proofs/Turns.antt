@@ -1,17 +1,14 @@
 -- One token more of a line. Assumes nothing.
-use Rattle.std.proofs.Common.{◌≡◌, ℕ, zero, suc, ◌+◌, ◌-◌, ◌<◌, ◌≤◌, Bool, true, false, cond, ◌&&◌, eqb, ltb, ◌⊎◌, List, [], ◌∷◌, ◌++◌, length, get_or, take, drop, sym, refl, ap, ◌∙◌, subst, inl, inr, append_assoc, append-nil, add-zero, arith}
-use Rattle.std.proofs.lemmas.List.{drop_more, drop_all, drop-drop, length_push, length-take-le}
-use Rattle.std.proofs.lemmas.Bool.{cond-true, cond-false, lt-ltb, le-ltb, and_from}
+use Rattle.std.proofs.Common.{◌≡◌, ℕ, zero, suc, ◌+◌, ◌<◌, ◌≤◌, Bool, true, false, cond, eqb, ltb, ◌⊎◌, List, [], ◌∷◌, ◌++◌, length, get_or, take, drop, sym, refl, ap, ◌∙◌, inl, inr, append_assoc, append-nil, add-zero, arith}
+use Rattle.std.proofs.lemmas.List.{drop_more, drop_all, length_push}
+use Rattle.std.proofs.lemmas.Bool.{cond-true, cond-false, lt-ltb, le-ltb}
 use Rattle.steps.specs.declared.names.Name.{Name}
-use Rattle.steps.specs.Kinds.{name_text}
 use Rattle.steps.specs.Making.{name_of}
-use Rattle.steps.specs.Ranges.{IsName, name_byte, name_bytes}
-use Rattle.steps.proofs.Naming.{name_of_name}
-use Rattle.trails.specs.declared.endings.Cause.TheVariants.{JobSize, OddByte, NinthByte, NameDue, CutLine}
-use Rattle.trails.specs.declared.endings.Ending.{Ending}
-use Rattle.trails.specs.Told.{Told, faulty, ended, first}
+use Rattle.steps.specs.Ranges.{name_byte}
+use Rattle.trails.specs.declared.endings.Cause.TheVariants.{NinthByte, CutLine}
+use Rattle.trails.specs.Told.{Told, faulty, first}
 use Rattle.texts.specs.Tokens.{Byte, letter, space, line_end, odd, byte_of, run}
-use Rattle.texts.specs.Scan.{turn, stop, scan, from}
+use Rattle.texts.specs.Scan.{turn, stop, scan}
 
 -- a name byte
 pub is_letter : (b : ℕ) → name_byte b ≡ true → byte_of b ≡ letter

@@ -1,12 +1,12 @@
 -- The jobs of a text are lawful. Assumes nothing.
-use Rattle.std.specs.Prelude.{◌≡◌, ℕ, ◌+◌, ◌^◌, ◌<◌, ◌≤◌, cond, List, [], ◌∷◌, ◌++◌, length, drop, nat_lt}
+use Rattle.std.specs.Prelude.{◌≡◌, ℕ, ◌+◌, ◌^◌, ◌<◌, ◌≤◌, List, [], ◌∷◌, ◌++◌, length, drop, nat_lt}
 use Rattle.std.proofs.Common.{arith}
 use Rattle.std.proofs.lemmas.List.{length_push, length-drop}
 use Rattle.std.proofs.lemmas.Bool.{cond_both, ltb-true}
 use Rattle.steps.specs.declared.names.Name.{Name}
 use Rattle.steps.specs.Making.{name_of}
 use Rattle.trails.specs.Jobs.{Sized, Lawful}
-use Rattle.trails.specs.Told.{Told, faulty}
+use Rattle.trails.specs.Told.{Told}
 use Rattle.texts.specs.Tokens.{Byte, letter, space, line_end, odd, byte_of}
 use Rattle.texts.specs.Scan.{turn, stop, scan, from}
 

@@ -130,8 +130,8 @@ mod tests {
         let mut work = [name(b"X")?; 1000];
         let mut trail = TextTrail::new(b"LOAD READ0\n");
         assert_eq!(rt; trail.next(&mut work), Ok(2));
-        assert_eq!(rt; work[0].text(), b"LOAD");
-        assert_eq!(rt; work[1].text(), b"READ0");
+        assert_eq!(rt; work[0].text(), b"LOAD".as_slice());
+        assert_eq!(rt; work[1].text(), b"READ0".as_slice());
         Ok(())
     }
 

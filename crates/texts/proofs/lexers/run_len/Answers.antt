@@ -1,4 +1,4 @@
-use Rattle.std.proofs.Common.{◌≡◌, ◌+◌, ◌-◌, false, get_or, drop, sym, ap, ◌∙◌, arith}
+use Rattle.std.proofs.Common.{◌≡◌, ◌+◌, ◌-◌, get_or, drop, sym, ap, ◌∙◌, arith}
 use Rattle.steps.specs.Ranges.{name_byte}
 use Rattle.texts.specs.Tokens.{run}
 use Rattle.texts.proofs.Runs.{run_none, run_more, run_stops, run_past}
@@ -9,22 +9,22 @@ loop-n-preserved c =
     let text = c.args.text.now in
     let at = c.args.at in
     let n = c.loop-n.n in
-    let step = run_more text (at + n) (8 - n) (omega arith) (omega arith) c.if-is-name-byte.ensures in
+    let step = run_more text (at + n) (8 - n) (omega arith) (omega arith) c.if-is_name_byte.ensures in
     let place : at + n + 1 ≡ at + (n + 1) = omega arith in
     let less : 8 - n - 1 ≡ 8 - (n + 1) = omega arith in
     let same : run (8 - n - 1) (drop (at + n + 1) text) ≡ run (8 - (n + 1)) (drop (at + (n + 1)) text) = ap (λ k. run k (drop (at + n + 1) text)) less ∙ ap (λ k. run (8 - (n + 1)) (drop k text)) place in
     (omega arith, omega arith, omega arith)
 
-pub returns-else-is-name-byte : goal.returns-else-is-name-byte
-returns-else-is-name-byte c =
+pub returns-else-is_name_byte : goal.returns-else-is_name_byte
+returns-else-is_name_byte c =
     let text = c.args.text.now in
     let at = c.args.at in
     let n = c.loop-n.n in
-    let step = run_stops text (at + n) (8 - n) (omega arith) c.if-is-name-byte.ensures in
+    let step = run_stops text (at + n) (8 - n) (omega arith) c.if-is_name_byte.ensures in
     record {
       run = omega arith;
       within = omega arith;
-      none = λ z h. let e : at ≡ at + n = omega arith in ap (λ k. name_byte (get_or text k 0)) e ∙ sym c.if-is-name-byte.ensures;
+      none = λ z h. let e : at ≡ at + n = omega arith in ap (λ k. name_byte (get_or text k 0)) e ∙ sym c.if-is_name_byte.ensures;
     }
 
 pub returns-else-at-n : goal.returns-else-at-n
