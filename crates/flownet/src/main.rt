@@ -6,12 +6,13 @@ use account::{LONGEST_TEXT, print_account};
 use anyhow::anyhow;
 use reasons::reason;
 use std::io::Read;
+use std::process::ExitCode;
 use steps::Name;
 
 mod account;
 mod reasons;
 
-fn main(rt: HostRuntime) -> anyhow::Result<()> {
+fn main(rt: HostRuntime) -> anyhow::Result<ExitCode> {
     // One byte past the longest text is enough to see that there is more.
     let mut text = Vec::new(rt.alloc());
     rt.stdin()
@@ -21,10 +22,10 @@ fn main(rt: HostRuntime) -> anyhow::Result<()> {
         return Err(anyhow!("TICK is no name"));
     };
     let Some(refusal) = print_account(&rt, text.as_slice(), tick)? else {
-        return Ok(());
+        return Ok(ExitCode::SUCCESS);
     };
     let why = reason(&refusal);
     println!(rt; "{refusal}")?;
     eprintln!(rt; "flownet: {why}")?;
-    Err(why.into())
+    Ok(ExitCode::FAILURE)
 }
