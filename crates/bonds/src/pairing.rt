@@ -5,7 +5,7 @@ ghost use Rattle.flow.specs.Bits.{row};
 ghost use Rattle.flow.specs.Flow.{unrelated_of, leads_of, beside_of};
 ghost use Rattle.flow.specs.Rows.{stands_by};
 ghost use Rattle.bonds.specs.Pairs.{of_book, place_pairs, place_points, places_by, side_pairs, side_points, sides_by};
-ghost use Rattle.std.proofs.Common.{rules};
+ghost use Rattle.bonds.specs.Laws.{places_few, places_lack, places_symmetric, sides_few, sides_lack, sides_symmetric};
 
 use crate::places::PlaceBond;
 use crate::sides::SideBond;
@@ -134,11 +134,11 @@ impl Bond for PlaceBond {
 
     ghost pairs = { places_by };
 
-    ghost few = { Prim.search rules };
+    ghost few = { places_few };
 
-    ghost symmetric = { Prim.search rules };
+    ghost symmetric = { places_symmetric };
 
-    ghost lacks = { Prim.search rules };
+    ghost lacks = { places_lack };
 
     fn size(&mut self) -> usize {
         64
@@ -154,11 +154,11 @@ impl Bond for SideBond {
 
     ghost pairs = { sides_by };
 
-    ghost few = { Prim.search rules };
+    ghost few = { sides_few };
 
-    ghost symmetric = { Prim.search rules };
+    ghost symmetric = { sides_symmetric };
 
-    ghost lacks = { Prim.search rules };
+    ghost lacks = { sides_lack };
 
     fn size(&mut self) -> usize {
         32
