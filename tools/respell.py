@@ -175,7 +175,23 @@ def code_of(line):
     return line_of(line, "//")
 
 
+def is_turned(root):
+    """Whether no definition or lemma has its old name, so that there is nothing to do: a second run would turn new names."""
+    old = set(NAMES)
+    for folder, dirs, files in os.walk(os.path.join(root, "crates")):
+        dirs[:] = [d for d in dirs if d != "out"]
+        for name in files:
+            if name.endswith(".antt"):
+                with open(os.path.join(folder, name), encoding="utf-8") as f:
+                    if old & set(WORD.findall(f.read())):
+                        return False
+    return True
+
+
 def main(root):
+    if is_turned(root):
+        print("respell: no name to turn", file=sys.stderr)
+        raise SystemExit(2)
     for folder, dirs, files in os.walk(root):
         dirs[:] = sorted(d for d in dirs if d not in ("out", ".git", "tools"))
         for name in sorted(files):
