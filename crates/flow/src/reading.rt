@@ -1,7 +1,7 @@
 ghost use Rattle.std.specs.Prelude.{◌≡◌, ℕ, ◌<◌};
 ghost use Rattle.book.specs.View.{held_by};
 ghost use Rattle.flow.specs.Bits.{bit, row};
-ghost use Rattle.flow.specs.Flow.{looping as loops, reduced as reducedJobs};
+ghost use Rattle.flow.specs.Flow.{looping as loops, reduced as reduced_jobs};
 ghost use Rattle.flow.specs.Means.{Means};
 ghost use Rattle.flow.specs.Reading.{Tallies, whole, without};
 ghost use Rattle.flow.specs.Rows.{Shows};
@@ -35,7 +35,7 @@ fn tally_held(book: &Book) -> Tally
 // The tally of the reduced jobs, given the looping steps.
 fn tally_reduced(book: &Book, looping: u32) -> Tally
     requires { (s : ℕ) → bit looping s ≡ loops (held_by book.now) s }
-    ensures { Tallies (whole (reducedJobs (held_by book.now))) result }
+    ensures { Tallies (whole (reduced_jobs (held_by book.now))) result }
 {
     tally_jobs(book, looping)
 }

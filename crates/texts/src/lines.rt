@@ -12,8 +12,8 @@ use trails::{Ending, Trail, TrailStop};
 
 // Reads the line at an offset at the start of the work memory.
 fn read_line(text: &[u8], at: usize, work: &mut [Name]) -> Result<Line, Ending>
-    requires at_in_bounds { at ≤ length text.now }
-    requires in_bounds { 1000 ≤ length work.old }
+    requires within { at ≤ length text.now }
+    requires work { 1000 ≤ length work.old }
     ensures { GivesLine text.now at work.new result }
 {
     let mut lexer = Lexer::new(text, at);

@@ -13,8 +13,8 @@ use trails::{Ending, Trail, TrailFault, TrailStop};
 
 // Reads the next job, which starts at a place, into the work memory.
 fn read_job(words: &[u32], at: usize, work: &mut [Code]) -> Result<Job, Ending>
-    requires at_in_bounds { at ≤ length words.now }
-    requires in_bounds { 1000 ≤ length work.old }
+    requires within { at ≤ length words.now }
+    requires work { 1000 ≤ length work.old }
     ensures { GivesJob words.now at work.new result }
 {
     let mut due: usize = 0;
