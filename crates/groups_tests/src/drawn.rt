@@ -1,5 +1,6 @@
 ghost use Rattle.std.specs.Prelude.{◌/◌, ◌^◌, ◌≤◌, ◌&&◌, ◌||◌, ◌==◌, bit_and, nat_lt, slice_index};
-ghost use Rattle.groups_tests.specs.Laws.{below_size, either_way};
+ghost use Rattle.std.proofs.lemmas.Bool.{and_parts, ltb-true};
+ghost use Rattle.groups_tests.specs.Laws.{either_way};
 
 use groups::Bond;
 
@@ -45,7 +46,7 @@ impl Bond for Drawn {
 
     ghost symmetric = { λ s p q. either_way (nat_lt p s.size) (nat_lt q s.size) (bit_and (slice_index s.rows p / 2 ^ q) 1 == 1) (bit_and (slice_index s.rows q / 2 ^ p) 1 == 1) };
 
-    ghost lacks = { λ s p q. below_size p s.size _ };
+    ghost lacks = { λ s p q h. ltb-true p s.size (and_parts _ _ h).0 };
 
     fn size(&mut self) -> usize {
         self.size

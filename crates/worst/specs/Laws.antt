@@ -1,8 +1,8 @@
 -- What the bond of blocks owes: its pairs are told by whether two points are below its size, by whether they are the
 -- same, by whether either stands in no block, and by whether their blocks differ.
-use Rattle.std.specs.Prelude.{◌≡◌, ℕ, ◌<◌, Bool, true, false, not, ◌&&◌, ◌||◌, ◌==◌, nat_lt, refl}
+use Rattle.std.specs.Prelude.{◌≡◌, ℕ, Bool, true, false, not, ◌&&◌, ◌||◌, ◌==◌, refl}
 use Rattle.std.proofs.Common.{sym, ap, ap₂, ◌∙◌}
-use Rattle.std.proofs.lemmas.Bool.{eq-eqb, eqb-true, ltb-true}
+use Rattle.std.proofs.lemmas.Bool.{eq-eqb, eqb-true}
 
 alike : (x y : Bool) → (x ≡ true → y ≡ true) → (y ≡ true → x ≡ true) → x ≡ y
 alike true y to from = sym (to refl)
@@ -22,10 +22,3 @@ either_way true true e f c d g h same blocks = ap₂ (λ a b. a || b) same (ap (
 either_way true false e f c d g h same blocks = refl
 either_way false true e f c d g h same blocks = refl
 either_way false false e f c d g h same blocks = refl
-
-first_holds : (x b : Bool) → (x && b) ≡ true → x ≡ true
-first_holds true b h = refl
-first_holds false b h = h
-
-pub below_size : (p size : ℕ) (b : Bool) → (nat_lt p size && b) ≡ true → p < size
-below_size p size b h = ltb-true p size (first_holds (nat_lt p size) b h)

@@ -2,7 +2,8 @@
 #![tactic(auto)]
 
 ghost use Rattle.std.specs.Prelude.{◌/◌, ◌<◌, ◌≤◌, not, ◌&&◌, ◌||◌, ◌==◌, nat_le, nat_lt};
-ghost use Rattle.worst.specs.Laws.{below_size, either_way, same_either_way};
+ghost use Rattle.std.proofs.lemmas.Bool.{and_parts, ltb-true};
+ghost use Rattle.worst.specs.Laws.{either_way, same_either_way};
 
 use groups::{Bond, ListFault, list_groups};
 use std::io;
@@ -41,7 +42,7 @@ impl Bond for Blocks {
 
     ghost symmetric = { λ s p q. either_way (nat_lt p s.size) (nat_lt q s.size) (p == q) (q == p) (nat_le s.blocked p) (nat_le s.blocked q) (p / s.block == q / s.block) (q / s.block == p / s.block) (same_either_way p q) (same_either_way (p / s.block) (q / s.block)) };
 
-    ghost lacks = { λ s p q. below_size p s.size _ };
+    ghost lacks = { λ s p q h. ltb-true p s.size (and_parts _ _ h).0 };
 
     fn size(&mut self) -> usize {
         self.size
