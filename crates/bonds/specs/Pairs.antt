@@ -1,10 +1,9 @@
 -- The two bonds of jobs
-use Rattle.std.specs.Prelude.{ℕ, ◌-◌, ◌^◌, Bool, cond, ◌&&◌, ◌==◌, nat_le, nat_lt}
+use Rattle.std.specs.Prelude.{ℕ, ◌-◌, ◌^◌, Bool, false, cond, Option, None, Some, ◌&&◌, ◌==◌, nat_le, nat_lt}
 use Rattle.flow.specs.Bits.{row}
 use Rattle.flow.specs.Rows.{stands_by}
 use Rattle.flow.specs.Flow.{Jobs, stands, unrelated_of, leads_of, beside_of, unrelated, leads, beside}
-use Rattle.bonds.specs.declared.places.PlaceBond.{PlaceBond}
-use Rattle.bonds.specs.declared.sides.SideBond.{SideBond}
+use Rattle.flow.specs.declared.relations.Relations.{Relations}
 
 -- The place bond has 64 points: s is the step s as feeder, and 32 + s is the step s as fed. Two feeders, or two fed, are paired if they are unrelated, equal ones too; a feeder and a fed step if the one leads to the other.
 abbrev pub place_points : (unrelated leads : ℕ → ℕ → Bool) → ℕ → ℕ → Bool
@@ -43,9 +42,14 @@ opens steps len = (nat_le 1 steps && nat_le steps 32) && (nat_le 2 len && nat_le
 abbrev pub of_book : ℕ → ℕ → (ℕ → ℕ → Bool) → ℕ → ℕ → Bool
 of_book steps len pairs p q = opens steps len && pairs p q
 
--- the pairs that a bond has by its rows
-abbrev pub places_by : PlaceBond → ℕ → ℕ → Bool
-places_by b p q = b.open && place_points (unrelated_of (row b.relations.precedes) (row b.relations.returns)) (leads_of (row b.relations.precedes) (row b.relations.returns)) p q
+-- the pairs of the two bonds by the rows of relations
+abbrev pub places_by : Relations → ℕ → ℕ → Bool
+places_by r = place_points (unrelated_of (row r.precedes) (row r.returns)) (leads_of (row r.precedes) (row r.returns))
 
-abbrev pub sides_by : SideBond → ℕ → ℕ → Bool
-sides_by b p q = b.open && side_points (stands_by b.relations) (beside_of (row b.relations.precedes) (row b.relations.returns)) p q
+abbrev pub sides_by : Relations → ℕ → ℕ → Bool
+sides_by r = side_points (stands_by r) (beside_of (row r.precedes) (row r.returns))
+
+-- the pairs of a bond that may have no rows: none then
+abbrev pub pairs_if : (Relations → ℕ → ℕ → Bool) → Option Relations → ℕ → ℕ → Bool
+pairs_if by None p q = false
+pairs_if by (Some r) p q = by r p q

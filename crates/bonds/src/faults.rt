@@ -29,14 +29,14 @@ impl From<ListFault> for BondFault {
     }
 }
 
-impl BondFault {
-    // The five numbers of the refusal.
-    pub fn refusal(&self) -> Refusal
-        ensures { result ≡ bond_refusal self.now }
-    {
-        match *self {
-            BondFault::Void(void) => void.refusal(),
-            BondFault::List(fault) => fault.refusal(),
+// The five numbers of the refusal.
+impl From<BondFault> for Refusal {
+    ghost from_gives = { λ f r. r ≡ bond_refusal f };
+
+    fn from(fault: BondFault) -> Refusal {
+        match fault {
+            BondFault::Void(void) => Refusal::from(void),
+            BondFault::List(fault) => Refusal::from(fault),
         }
     }
 }

@@ -23,10 +23,7 @@ mod tests {
         b"A B C D E F G H I J K L M N O P Q R S\nA B C\nA C D\nA D B\nA C B\nA D C\nA B D\nA E F\nA F G\nA G E\nA F E\nA G F\nA E G\nA H I\nA I J\nA J H\nA I H\nA J I\nA H J\nA K L\nA L M\nA M K\nA L K\nA M L\nA K M\nA N O\nA O P\nA P N\nA O N\nA P O\nA N P\nA Q R\nA R S\nA S Q\nA R Q\nA S R\nA Q S\n";
 
     fn name(text: &[u8]) -> Result<Name, Fail> {
-        match Name::new(text) {
-            Some(made) => Ok(made),
-            None => Err(Fail::new("no name")),
-        }
+        Ok(Name::new(text).ok_or("no name")?)
     }
 
     // Feeds a book the jobs of a text, whose first line is the roster.
@@ -35,7 +32,7 @@ mod tests {
         let mut names = [a; 1000];
         let mut work = [a; 1000];
         let mut trail = TextTrail::new(text);
-        let Ok(n) = trail.next(&mut names) else {
+        let Ok(Some(n)) = trail.next(&mut names) else {
             return Err(Fail::new("no roster"));
         };
         let roster = Roster::new(&names[0..n]);
@@ -46,28 +43,35 @@ mod tests {
     // The list is these groups, and the words after them are as they were.
     fn listed(rt: &impl Abort, answer: Result<usize, BondFault>, list: &[u64], groups: &[u64]) {
         assert_eq!(rt; answer, Ok(groups.len()));
-        for i in 0..list.len() {
-            let due = if i < groups.len() { groups[i] } else { 7 };
-            assert_eq!(rt; list[i], due);
-        }
+        assert!(rt; groups.len() <= list.len());
+        let (listed, rest) = list.split_at(groups.len());
+        assert_eq!(rt; listed, groups);
+        assert!(rt; rest.iter().all(|word| *word == 7));
+    }
+
+    // A list of the bond of a book that was fed this text is these groups.
+    fn lists<F: Fn(&Book, &mut [u64]) -> Result<usize, BondFault>>(
+        rt: &impl Abort,
+        list_bond: F,
+        text: &[u8],
+        groups: &[u64],
+    ) -> Result<(), Fail>
+        requires { F.IsAlwaysCallable list_bond }
+    {
+        let mut memory = [0u32; 64];
+        let mut book = Book::open(&mut memory, 4);
+        feed(rt, &mut book, text)?;
+        let mut list = [7u64; 8];
+        listed(rt, list_bond(&book, &mut list), &list, groups);
+        Ok(())
     }
 
     fn sides(rt: &impl Abort, text: &[u8], groups: &[u64]) -> Result<(), Fail> {
-        let mut memory = [0u32; 64];
-        let mut book = Book::open(&mut memory, 4);
-        feed(rt, &mut book, text)?;
-        let mut list = [7u64; 8];
-        listed(rt, list_sides(&book, &mut list), &list, groups);
-        Ok(())
+        lists(rt, list_sides, text, groups)
     }
 
     fn places(rt: &impl Abort, text: &[u8], groups: &[u64]) -> Result<(), Fail> {
-        let mut memory = [0u32; 64];
-        let mut book = Book::open(&mut memory, 4);
-        feed(rt, &mut book, text)?;
-        let mut list = [7u64; 8];
-        listed(rt, list_places(&book, &mut list), &list, groups);
-        Ok(())
+        lists(rt, list_places, text, groups)
     }
 
     #[test]
@@ -120,9 +124,7 @@ mod tests {
             list_places(&book, &mut short),
             Err(BondFault::List(ListFault::TooShort))
         );
-        for i in 0..255 {
-            assert_eq!(rt; short[i], 7);
-        }
+        assert_eq!(rt; short, [7; 255]);
         Ok(())
     }
 
@@ -141,10 +143,8 @@ mod tests {
             place: 0,
             cause: 0,
         };
-        assert_eq!(rt; fault.refusal(), refusal);
-        for i in 0..1000 {
-            assert_eq!(rt; list[i], 7);
-        }
+        assert_eq!(rt; Refusal::from(fault), refusal);
+        assert_eq!(rt; list, [7; 1000]);
         Ok(())
     }
 

@@ -2,11 +2,12 @@
 use Rattle.std.proofs.Common.{◌≡◌, ℕ, ◌+◌, ◌^◌, ◌≤◌, List, [], ◌∷◌, ◌++◌, length, take, drop, Ok, Err, Result, sym, refl, ap, ◌∙◌, subst, inl, inr, ⊎_elim, append_assoc, arith}
 use lib.Seq.{paste, paste-zero, take-paste, drop-paste, take-length}
 use Rattle.std.proofs.lemmas.List.{take-append-drop, take-take, length-append, drop-drop}
-use Rattle.steps.specs.declared.orders.Order.{Order}
+use Rattle.std.specs.declared.cmp.Ordering.{Ordering}
 use Rattle.steps.specs.declared.faults.RosterFault.TheVariants.{Unfit, Unlisted}
 use Rattle.steps.specs.Rosters.{Fit}
-use Rattle.trails.specs.declared.endings.Ending.{Ending}
-use Rattle.trails.specs.declared.endings.Ending.TheVariants.{End, Fault}
+use Rattle.trails.specs.Jobs.{Ending}
+use Rattle.std.specs.Prelude.{None as End, Some as Fault, MatchResult, IsErrAnd}
+use Rattle.std.proofs.lemmas.Result.{err_from_is_err_and}
 use Rattle.book.specs.declared.shape.Book.{Book}
 use Rattle.book.specs.declared.entries.Entry.{Entry}
 use Rattle.book.specs.declared.entries.Entry.TheVariants.{New, Held}
@@ -18,8 +19,12 @@ use Rattle.book.specs.Faults.{at_job}
 use Rattle.book.specs.Feed.{laid, Closed, Declined, Feeds, Fed, Ready, Took}
 use Rattle.book.proofs.Voids.{decide}
 use Rattle.book.specs.Jobs.{encode, encoded, held, Opens}
-use Rattle.book.specs.View.{held_by, memory_of}
+use Rattle.book.specs.View.{Stays, held_by, memory_of}
 use Rattle.book.proofs.Lay.{encode_push, used_is}
+
+-- a book that stays from one call to the next stays over both
+pub still : {a b c : Book} → Stays a b → Stays b c → Stays a c
+still p q = record { steps = q.steps ∙ p.steps; long = q.long ∙ p.long; named = q.named ∙ p.named }
 
 -- an open book's memory has its jobs laid in it
 pub as_laid : (b : Book) → Opens b.steps (length (memory_of b)) → memory_of b ≡ laid (memory_of b) (held_by b)
@@ -67,7 +72,7 @@ module _ (ws memory after : List ℕ) (hs hs' : List (List ℕ)) (job : List ℕ
       ∙ laid_push ws hs job (omega (arith, k.1, long)) ∙ ap (laid ws) (sym k.3)
   laid_kept (Held n) k e = e ∙ sofar ∙ ap (laid ws) (sym k.1)
 
-module _ {S : Type 0} (order : S → S → Order) (steps len : ℕ) (roster : List S) where
+module _ {S : Type 0} (order : S → S → Ordering) (steps len : ℕ) (roster : List S) where
   -- a job that is declined leaves what is held, and the feed stops there
   pub declines : (f : FeedFault) (job : List S) (js : List (List S)) (e : Ending) (k : ℕ) (hs hs' : List (List ℕ)) → Fit order roster steps
       → Took order steps len roster hs job (Err f) hs' → (hs' ≡ hs) × Feeds order steps len roster (job ∷ js) e k hs (Err (at_job f k)) hs' js
@@ -127,7 +132,7 @@ module _ {S : Type 0} (order : S → S → Order) (steps len : ℕ) (roster : Li
   went (Err (Room n)) js e w hs hs' left o f h t = (o, f, h, t)
 
 -- one turn of a feed: the trail's next job is at the start of the work memory v, and the book has so far kept its steps and its length
-module _ {S : Type 0} (order : S → S → Order) (roster : List S) (steps len steps₁ len₁ : ℕ) (same_steps : steps₁ ≡ steps) (same_len : len₁ ≡ len)
+module _ {S : Type 0} (order : S → S → Ordering) (roster : List S) (steps len steps₁ len₁ : ℕ) (same_steps : steps₁ ≡ steps) (same_len : len₁ ≡ len)
     (js ks : List (List S)) (job : List S) (next : js ≡ job ∷ ks) (e : Ending) (k : ℕ) (hs hs' : List (List ℕ)) where
   here : (r : Result Entry FeedFault) → Took order steps₁ len₁ roster hs job r hs' → Took order steps len roster hs job r hs'
   here r t = subst (λ l. Took order steps l roster hs job r hs') same_len (subst (λ s. Took order s len₁ roster hs job r hs') same_steps t)
@@ -139,3 +144,16 @@ module _ {S : Type 0} (order : S → S → Order) (roster : List S) (steps len s
 
   pub turn_entered : (a : Entry) → Took order steps₁ len₁ roster hs job (Ok a) hs' → (r : Result ℕ FeedFault) (x : List (List ℕ)) (left : List (List S)) → Feeds order steps len roster ks e (k + 1) hs' r x left → Feeds order steps len roster js e k hs r x left
   turn_entered a t r x left more = subst (λ y. Feeds order steps len roster y e k hs r x left) (sym next) (inl (a, hs', here (Ok a) t, more))
+
+-- what `map_err` of what an entry answers says of it, where its closure tells the number of jobs ahead
+module _ {Post : FeedFault → FeedFault → Type 0} (k : ℕ) (post : (e f : FeedFault) → Post e f → f ≡ at_job e k) where
+  pub declined_at : (t m : Result Entry FeedFault) → MatchResult t (λ x. m ≡ Ok x) (λ e. IsErrAnd m (Post e)) → (f : FeedFault) → m ≡ Err f → (e : FeedFault) × (t ≡ Err e) × (f ≡ at_job e k)
+  declined_at (Ok x) m h f p = grind arith
+  declined_at (Err e) m h f p = let q = err_from_is_err_and m h in (e, refl, inside (sym p ∙ q.1) ∙ post e q.0 q.2)
+    where
+      inside : {x y : FeedFault} → ◌≡◌ {A = Result Entry FeedFault} (Err x) (Err y) → x ≡ y
+      inside e = grind arith
+
+  pub accepted_at : (t m : Result Entry FeedFault) → MatchResult t (λ x. m ≡ Ok x) (λ e. IsErrAnd m (Post e)) → (x : Entry) → m ≡ Ok x → t ≡ Ok x
+  accepted_at (Ok y) m h x p = sym h ∙ p
+  accepted_at (Err e) m h x p = let q = err_from_is_err_and m h in grind arith

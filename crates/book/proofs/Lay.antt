@@ -158,9 +158,6 @@ module _ (front : List ℕ) (js : List (List ℕ)) (i n : ℕ) (e : drop i front
       none : length (drop i front) ≡ 0 → ⊥
       none z = omega (arith, length-drop i front)
 
-  pub job_at : List ℕ
-  job_at = get_or js n []
-
   pub split : drop i front ≡ encoded (get_or js n []) ++ encode (drop (n + 1) js)
   split = e ∙ ap encode (drop_more js n [] more)
 
@@ -188,9 +185,6 @@ module _ (ws : List ℕ) (used i n : ℕ) (within : used ≤ length ws) (e : dro
   long : length (take used ws) ≡ used
   long = length-take-le used ws within
 
-  abbrev at_n : List ℕ
-  at_n = get_or (held used ws) n []
-
   in_front : i < length (take used ws)
   in_front = omega (arith, long)
 
@@ -209,14 +203,15 @@ module _ (ws : List ℕ) (used i n : ℕ) (within : used ≤ length ws) (e : dro
   pub t_next : drop (i + (1 + (get_or ws i 0 - 2 ^ 30))) (take used ws) ≡ encode (drop (n + 1) (held used ws))
   t_next = ap (λ (m : ℕ). drop m (take used ws)) (omega (arith, t_head)) ∙ next (take used ws) (held used ws) i n e in_front
 
-  pub t_same : (job : List ℕ) → get_or ws i 0 - 2 ^ 30 ≡ length job → ((k : ℕ) → k < length job → get_or ws (i + 1 + k) 0 ≡ get_or job k 0) → get_or (held used ws) n [] ≡ job
-  t_same job len same = ext_get_or 0 (get_or (held used ws) n []) job (omega (arith, t_head)) (λ k h. sym (t_event k h) ∙ same k (omega (arith, t_head)))
-
-  pub t_other : (job : List ℕ) → (k : ℕ) × (k < length job) × (get_or ws (i + 1 + k) 0 ≡ get_or job k 0 → ⊥) → get_or (held used ws) n [] ≡ job → ⊥
-  t_other job (k, h, nay) q = nay (t_event k (omega (arith, ap length q)) ∙ ap (λ (x : List ℕ). get_or x k 0) q)
-
-  pub t_longer : (job : List ℕ) → (get_or ws i 0 - 2 ^ 30 ≡ length job → ⊥) → get_or (held used ws) n [] ≡ job → ⊥
-  t_longer job nay q = nay (omega (arith, t_head, ap length q))
+  -- the words after a head are the job's events
+  pub t_job : take (i + 1 + (get_or ws i 0 - 2 ^ 30) - (i + 1)) (drop (i + 1) ws) ≡ get_or (held used ws) n []
+  t_job =
+      let m : i + 1 + (get_or ws i 0 - 2 ^ 30) - (i + 1) ≡ length (get_or (held used ws) n []) = omega (arith, t_head) in
+      let room : length (get_or (held used ws) n []) ≤ length (drop (i + 1) ws) = omega (arith, length-drop (i + 1) ws, t_room, within) in
+      ap (λ k. take k (drop (i + 1) ws)) m
+      ∙ ext_get_or 0 _ (get_or (held used ws) n []) (length-take-le (length (get_or (held used ws) n [])) (drop (i + 1) ws) room)
+      (λ k h. let inside : k < length (get_or (held used ws) n []) = omega (arith, length-take-le (length (get_or (held used ws) n [])) (drop (i + 1) ws) room) in
+      get_or-take (length (get_or (held used ws) n [])) (drop (i + 1) ws) k 0 inside ∙ get_or-drop (i + 1) ws k 0 ∙ t_event k inside)
 
 -- how many words an open book has used
 pub used_is : (b : Book) → Opens b.steps (length b.words.now) → b.used ≡ 1 + length (encode (held b.used b.words.now))

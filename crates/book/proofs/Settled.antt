@@ -2,7 +2,7 @@
 use Rattle.std.proofs.Common.{◌≡◌, ℕ, ◌+◌, ◌<◌, ◌≤◌, List, length, Some, None, Ok, Err, Result, sym, refl, ap, ◌∙◌, ⊎_elim, arith}
 use Rattle.std.proofs.lemmas.List.{length-map}
 use Rattle.std.proofs.lemmas.Bool.{cases_order}
-use Rattle.steps.specs.declared.orders.Order.{Order}
+use Rattle.std.specs.declared.cmp.Ordering.{Ordering}
 use Rattle.steps.specs.declared.faults.RosterFault.TheVariants.{Unfit, Unlisted}
 use Rattle.steps.specs.Rosters.{FirstUnlisted, number_of, numbers}
 use Rattle.steps.proofs.Firsts.{unlisted_once}
@@ -14,7 +14,7 @@ use Rattle.book.specs.Enter.{Entered, HeldAt, unused}
 use Rattle.book.specs.Jobs.{Apart}
 use Rattle.book.proofs.Voids.{void_open, void_same}
 
-module _ {S : Type 0} (order : S → S → Order) (steps len : ℕ) (js : List (List ℕ)) (apart : Apart js) (roster job : List S) where
+module _ {S : Type 0} (order : S → S → Ordering) (steps len : ℕ) (js : List (List ℕ)) (apart : Apart js) (roster job : List S) where
   not_both : (p : ℕ) → FirstUnlisted roster job (Some p) → FirstUnlisted roster job None → ⊥
   not_both p h k =
       let e : None ≡ Some p = unlisted_once roster job (Some p) None h k in

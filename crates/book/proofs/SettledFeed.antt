@@ -1,10 +1,10 @@
 -- A feed has one answer, and leaves one list of jobs and one trail. Assumes nothing.
 use Rattle.std.proofs.Common.{◌≡◌, ℕ, ◌+◌, ◌<◌, ◌≤◌, ◌⊎◌, List, [], ◌∷◌, Ok, Err, Result, sym, refl, ap, ◌∙◌, subst, inl, inr, arith}
-use Rattle.steps.specs.declared.orders.Order.{Order}
+use Rattle.std.specs.declared.cmp.Ordering.{Ordering}
 use Rattle.steps.specs.declared.faults.RosterFault.TheVariants.{Unfit, Unlisted}
 use Rattle.steps.specs.Rosters.{Fit, numbers}
-use Rattle.trails.specs.declared.endings.Ending.{Ending}
-use Rattle.trails.specs.declared.endings.Ending.TheVariants.{End, Fault}
+use Rattle.trails.specs.Jobs.{Ending}
+use Rattle.std.specs.Prelude.{None as End, Some as Fault}
 use Rattle.book.specs.declared.entries.Entry.{Entry}
 use Rattle.book.specs.declared.entries.Entry.TheVariants.{New, Held}
 use Rattle.book.specs.declared.faults.Void as why
@@ -19,7 +19,7 @@ use Rattle.book.proofs.Lay.{apart_push}
 use Rattle.book.proofs.Settled.{settled}
 use Rattle.book.proofs.Voids.{void_open, void_same}
 
-module _ {S : Type 0} (order : S → S → Order) (steps len : ℕ) (roster : List S) where
+module _ {S : Type 0} (order : S → S → Ordering) (steps len : ℕ) (roster : List S) where
   -- accepted jobs stay apart
   apart_entered : (a : Entry) (hs more : List (List ℕ)) (job : List S) → Apart hs → Entered order steps len hs roster job (Ok a) more → Apart more
   apart_entered (New n) hs more job h t = subst Apart (sym t.4.3) (apart_push hs (numbers order roster job) h t.4.0)

@@ -1,13 +1,13 @@
 -- A feed after a feed is a feed of both
 use Rattle.std.proofs.Common.{◌≡◌, ℕ, ◌+◌, List, [], ◌∷◌, ◌++◌, Ok, Err, Result, ap, subst, inl, inr, arith}
-use Rattle.steps.specs.declared.orders.Order.{Order}
-use Rattle.trails.specs.declared.endings.Ending.{Ending}
-use Rattle.trails.specs.declared.endings.Ending.TheVariants.{End, Fault}
+use Rattle.std.specs.declared.cmp.Ordering.{Ordering}
+use Rattle.trails.specs.Jobs.{Ending}
+use Rattle.std.specs.Prelude.{None as End, Some as Fault}
 use Rattle.book.specs.declared.faults.FeedFault.{FeedFault}
 use Rattle.book.specs.declared.faults.FeedFault.TheVariants.{Void, Roster, ShortWork, Trail, Room}
 use Rattle.book.specs.Feed.{Closed, Declined, Feeds, Together, later}
 
-module _ {S : Type 0} (order : S → S → Order) (steps len : ℕ) (roster : List S) (m : ℕ) where
+module _ {S : Type 0} (order : S → S → Ordering) (steps len : ℕ) (roster : List S) (m : ℕ) where
   closed_later : (e : Ending) (k : ℕ) (r : Result ℕ FeedFault) → Closed e k r → Closed e (m + k) (later m r)
   closed_later End k r c = ap (later m) c
   closed_later (Fault f) k r c = ap (later m) c
@@ -29,7 +29,7 @@ module _ {S : Type 0} (order : S → S → Order) (steps len : ℕ) (roster : Li
       inl (a, more, one, subst (λ x. Feeds order steps len roster js e x more (later m r) hs' left) n (feeds_later js e (k + 1) more r hs' left rest))
   feeds_later (j ∷ js) e k hs r hs' left (inr (d, same, rest)) = inr (declined_later r hs j k d, same, rest)
 
-module _ {S : Type 0} (order : S → S → Order) (steps len : ℕ) (roster : List S) (js : List (List S)) (e : Ending) (hs : List (List ℕ)) (r : Result ℕ FeedFault) (hs' : List (List ℕ)) (left : List (List S)) where
+module _ {S : Type 0} (order : S → S → Ordering) (steps len : ℕ) (roster : List S) (js : List (List S)) (e : Ending) (hs : List (List ℕ)) (r : Result ℕ FeedFault) (hs' : List (List ℕ)) (left : List (List S)) where
   after : (earlier : List (List S)) (k : ℕ) (before : List (List ℕ)) (n : ℕ) → Feeds order steps len roster earlier End k before (Ok n) hs []
       → Feeds order steps len roster js e 0 hs r hs' left → Feeds order steps len roster (earlier ++ js) e k before (later n r) hs' left
   after [] k before n (closed, same, _) f =

@@ -1,7 +1,7 @@
 -- What an entry answers, and what the book holds after it
 use Rattle.std.specs.Prelude.{◌≡◌, ℕ, ◌+◌, ◌-◌, ◌<◌, ◌≤◌, List, [], ◌∷◌, ◌++◌, length, Some, None, Ok, Err, Result, ◌≢◌, slice_index_or}
 use Rattle.std.proofs.Math.Seq.{paste}
-use Rattle.steps.specs.declared.orders.Order.{Order}
+use Rattle.std.specs.declared.cmp.Ordering.{Ordering}
 use Rattle.steps.specs.declared.faults.RosterFault.{RosterFault}
 use Rattle.steps.specs.declared.faults.RosterFault.TheVariants.{Unfit, Unlisted}
 use Rattle.steps.specs.Rosters.{Fit, FirstUnlisted, numbers}
@@ -51,12 +51,15 @@ written js job (Ok (New n)) ws = paste ws (1 + length (encode js)) (encoded job)
 written js job (Ok (Held n)) ws = ws
 written js job (Err e) ws = ws
 
-module _ {S : Type 0} (order : S → S → Order) where
-  -- a job's step numbers, or its first event that is not on the roster
-  abbrev pub Numbering : {A : Type 0} → List S → List S → List ℕ → Result A RosterFault → Type 0
-  Numbering roster job out (Ok _) = FirstUnlisted roster job None × (out ≡ numbers order roster job) × OfSteps (length roster) out
-  Numbering roster job out (Err Unfit) = ⊥
-  Numbering roster job out (Err (Unlisted p)) = FirstUnlisted roster job (Some p)
+-- a job has no step numbers, for its first event that is not on the roster
+abbrev pub Unnumbered : {S : Type 0} → List S → List S → RosterFault → Type 0
+Unnumbered roster job Unfit = ⊥
+Unnumbered roster job (Unlisted p) = FirstUnlisted roster job (Some p)
+
+module _ {S : Type 0} (order : S → S → Ordering) where
+  -- each event of a job is on the roster, and these are its step numbers
+  abbrev pub AllNumbered : List S → List S → List ℕ → Type 0
+  AllNumbered roster job out = FirstUnlisted roster job None × (out ≡ numbers order roster job) × OfSteps (length roster) out
 
   -- an entry's answer, row by row, and the jobs held after it: a void book's row, 3, 4, 5, 6
   abbrev pub Entered : ℕ → ℕ → List (List ℕ) → List S → List S → Result Entry EnterFault → List (List ℕ) → Type 0

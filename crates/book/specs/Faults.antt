@@ -6,6 +6,7 @@ use Rattle.trails.specs.Faults.{fault_refusal}
 use Rattle.book.specs.declared.faults.Void as void
 use Rattle.book.specs.declared.faults.EnterFault as enter
 use Rattle.book.specs.declared.faults.FeedFault as feed
+use Rattle.trails.specs.declared.endings.TrailStop as stop
 
 abbrev book_row : ℕ → Refusal
 book_row r = record { row = r; layer = 3; job = 0; place = 0; cause = 0 }
@@ -31,6 +32,11 @@ feed_refusal (feed.TheVariants.Roster f n) = of_job (refusal_of f) n
 feed_refusal feed.TheVariants.ShortWork = book_row 7
 feed_refusal (feed.TheVariants.Trail f n) = of_job (fault_refusal f) n
 feed_refusal (feed.TheVariants.Room n) = of_job (book_row 6) n
+
+-- what a feed makes of a trail that stops, ahead of all jobs
+abbrev pub feed_stop : stop.TrailStop → feed.FeedFault
+feed_stop stop.TheVariants.ShortWork = feed.TheVariants.ShortWork
+feed_stop (stop.TheVariants.Fault f) = feed.TheVariants.Trail f 0
 
 -- the fault after so many jobs
 abbrev pub at_job : feed.FeedFault → ℕ → feed.FeedFault

@@ -1,19 +1,19 @@
 -- What a feed answers, and what the book holds after it
-use Rattle.std.specs.Prelude.{◌≡◌, ℕ, ◌+◌, ◌<◌, ◌≤◌, ◌⊎◌, List, [], ◌∷◌, ◌++◌, length, Ok, Err, Result}
+use Rattle.std.specs.Prelude.{◌≡◌, ℕ, ◌+◌, ◌<◌, ◌≤◌, ◌⊎◌, List, [], ◌∷◌, ◌++◌, length, Option, Ok, Err, Result, IsOk, IsErr, IfErr}
 use Rattle.std.proofs.Math.Seq.{paste}
-use Rattle.steps.specs.declared.orders.Order.{Order}
+use Rattle.std.specs.declared.cmp.Ordering.{Ordering}
 use Rattle.steps.specs.declared.faults.RosterFault.TheVariants.{Unfit, Unlisted}
 use Rattle.steps.specs.Rosters.{Fit}
-use Rattle.trails.specs.declared.endings.Ending.{Ending}
-use Rattle.trails.specs.declared.endings.Ending.TheVariants.{End, Fault}
+use Rattle.trails.specs.Jobs.{Ending}
+use Rattle.std.specs.Prelude.{None as End, Some as Fault}
 use Rattle.trails.specs.declared.endings.TrailStop.{TrailStop}
-use Rattle.trails.specs.declared.endings.TrailStop.TheVariants.{ShortWork as Short, Ended}
-use Rattle.trails.specs.declared.endings.TrailFault.{TrailFault}
+use Rattle.trails.specs.declared.endings.TrailStop.TheVariants.{ShortWork as Short, Fault as Stopped}
 use Rattle.book.specs.declared.entries.Entry.{Entry}
 use Rattle.book.specs.declared.faults.EnterFault.TheVariants as enter
 use Rattle.book.specs.declared.faults.FeedFault.{FeedFault}
 use Rattle.book.specs.declared.faults.FeedFault.TheVariants.{Void, Roster, ShortWork, Trail, Room}
 use Rattle.book.specs.Enter.{Entered, VoidBy}
+use Rattle.book.specs.Faults.{feed_stop}
 use Rattle.book.specs.Jobs.{encode, Opens}
 
 -- the memory with the words of these jobs after its first word
@@ -34,7 +34,7 @@ later m (Err ShortWork) = Err ShortWork
 later m (Err (Trail f n)) = Err (Trail f (m + n))
 later m (Err (Room n)) = Err (Room (m + n))
 
-module _ {S : Type 0} (order : S → S → Order) (steps len : ℕ) (roster : List S) where
+module _ {S : Type 0} (order : S → S → Ordering) (steps len : ℕ) (roster : List S) where
   -- the job after k others is declined by rows 5 or 6, as entering it would be
   abbrev pub Declined : List (List ℕ) → List S → ℕ → Result ℕ FeedFault → Type 0
   Declined hs job k (Ok n) = ⊥
@@ -85,19 +85,13 @@ module _ {S : Type 0} (order : S → S → Order) (steps len : ℕ) (roster : Li
   Took hs job (Err (Trail f n)) hs' = ⊥
   Took hs job (Err (Room n)) hs' = (n ≡ 0) × Entered order steps len hs roster job (Err enter.Room) hs'
 
--- what a call for the next job that gave none is to a feed after k jobs
-abbrev pub Ends : Result ℕ TrailStop → ℕ → Result ℕ FeedFault → Type 0
-Ends (Ok n) k r = Unit {0}
+-- what a trail that gave no job says to a feed after k jobs
+abbrev pub Ends : Result (Option ℕ) TrailStop → ℕ → Result ℕ FeedFault → Type 0
+Ends (Ok n) k r = Closed End k r
 Ends (Err Short) k r = Unit {0}
-Ends (Err (Ended e)) k r = Closed e k r
+Ends (Err (Stopped f)) k r = Closed (Fault f) k r
 
--- an ending, as a result
-abbrev pub Whole : {A : Type 0} → Ending → Result A TrailFault → Type 0
-Whole e (Ok _) = e ≡ End
-Whole e (Err f) = e ≡ Fault f
-
-abbrev pub Checked : {A : Type 0} → Ending → Result A FeedFault → Type 0
-Checked End (Ok _) = Unit {0}
-Checked End (Err f) = ⊥
-Checked (Fault t) (Ok _) = ⊥
-Checked (Fault t) (Err f) = f ≡ Trail t 0
+-- the same, ahead of all jobs
+abbrev pub Checked : {A : Type 0} → Result (Option ℕ) TrailStop → Result A FeedFault → Type 0
+Checked (Ok n) r = IsOk r
+Checked (Err stop) r = IfErr r (λ f. f ≡ feed_stop stop) × IsErr r

@@ -1,11 +1,11 @@
 ghost use Rattle.std.specs.Prelude.{◌≡◌};
 ghost use Rattle.book.specs.declared.faults.EnterFault.TheVariants.{Void as EnterVoid, Roster as EnterRoster, Room as EnterRoom};
 ghost use Rattle.book.specs.declared.faults.FeedFault.TheVariants.{Void as FeedVoid, Roster as FeedRoster, Trail as FeedTrail, Room as FeedRoom};
-ghost use Rattle.book.specs.Faults.{void_refusal, enter_refusal, feed_refusal, at_job};
+ghost use Rattle.book.specs.Faults.{void_refusal, enter_refusal, feed_refusal, feed_stop, at_job};
 
 use refusals::Refusal;
 use steps::RosterFault;
-use trails::TrailFault;
+use trails::{TrailFault, TrailStop};
 
 // Why a book is void.
 #[derive(Clone, Copy, PartialEq, Eq, Debug)]
@@ -97,52 +97,13 @@ impl From<NoRoom> for FeedFault {
     }
 }
 
-impl Void {
-    // The five numbers of the refusal.
-    pub fn refusal(&self) -> Refusal
-        ensures { result ≡ void_refusal self.now }
-    {
-        match *self {
-            Void::Steps => Refusal {
-                row: 1,
-                layer: 3,
-                job: 0,
-                place: 0,
-                cause: 0,
-            },
-            Void::Memory => Refusal {
-                row: 2,
-                layer: 3,
-                job: 0,
-                place: 0,
-                cause: 0,
-            },
-        }
-    }
-}
+impl From<TrailStop> for FeedFault {
+    ghost from_gives = { λ s r. r ≡ feed_stop s };
 
-impl EnterFault {
-    // The five numbers of the refusal.
-    pub fn refusal(&self) -> Refusal
-        ensures { result ≡ enter_refusal self.now }
-    {
-        match *self {
-            EnterFault::Void(void) => void.refusal(),
-            EnterFault::Roster(fault) => fault.refusal(),
-            EnterFault::Events => Refusal {
-                row: 4,
-                layer: 3,
-                job: 0,
-                place: 0,
-                cause: 0,
-            },
-            EnterFault::Room => Refusal {
-                row: 6,
-                layer: 3,
-                job: 0,
-                place: 0,
-                cause: 0,
-            },
+    fn from(stop: TrailStop) -> FeedFault {
+        match stop {
+            TrailStop::ShortWork => FeedFault::ShortWork,
+            TrailStop::Fault(fault) => FeedFault::from(fault),
         }
     }
 }
@@ -160,29 +121,43 @@ impl FeedFault {
             FeedFault::Room { .. } => FeedFault::Room { job },
         }
     }
+}
 
-    // The five numbers of the refusal.
-    pub fn refusal(&self) -> Refusal
-        ensures { result ≡ feed_refusal self.now }
-    {
-        match *self {
-            FeedFault::Void(void) => void.refusal(),
-            FeedFault::Roster { fault, job } => fault.refusal().at_job(job),
-            FeedFault::ShortWork => Refusal {
-                row: 7,
-                layer: 3,
-                job: 0,
-                place: 0,
-                cause: 0,
-            },
-            FeedFault::Trail { fault, job } => fault.refusal().at_job(job),
-            FeedFault::Room { job } => Refusal {
-                row: 6,
-                layer: 3,
-                job,
-                place: 0,
-                cause: 0,
-            },
+// The five numbers of each refusal.
+impl From<Void> for Refusal {
+    ghost from_gives = { λ v r. r ≡ void_refusal v };
+
+    fn from(void: Void) -> Refusal {
+        match void {
+            Void::Steps => Refusal::new(1, 3),
+            Void::Memory => Refusal::new(2, 3),
+        }
+    }
+}
+
+impl From<EnterFault> for Refusal {
+    ghost from_gives = { λ f r. r ≡ enter_refusal f };
+
+    fn from(fault: EnterFault) -> Refusal {
+        match fault {
+            EnterFault::Void(void) => Refusal::from(void),
+            EnterFault::Roster(fault) => Refusal::from(fault),
+            EnterFault::Events => Refusal::new(4, 3),
+            EnterFault::Room => Refusal::new(6, 3),
+        }
+    }
+}
+
+impl From<FeedFault> for Refusal {
+    ghost from_gives = { λ f r. r ≡ feed_refusal f };
+
+    fn from(fault: FeedFault) -> Refusal {
+        match fault {
+            FeedFault::Void(void) => Refusal::from(void),
+            FeedFault::Roster { fault, job } => Refusal::from(fault).at_job(job),
+            FeedFault::ShortWork => Refusal::new(7, 3),
+            FeedFault::Trail { fault, job } => Refusal::from(fault).at_job(job),
+            FeedFault::Room { job } => Refusal::new(6, 3).at_job(job),
         }
     }
 }

@@ -5,30 +5,30 @@ ghost use Rattle.book.specs.Jobs.{encode, held};
 // Kind 1 of a word, a job's head.
 pub(crate) const HEAD: u32 = 0x4000_0000;
 
-// Whether the words from `at` on are the events of a job.
-fn same(words: &[u32], at: usize, job: &[u8]) -> bool
-    requires { at + length job.now ≤ length words.now }
-    ensures { MatchBool result ((i : ℕ) → i < length job.now → slice_index words.now (at + i) ≡ slice_index job.now i) ((i : ℕ) × (i < length job.now) × (slice_index words.now (at + i) ≢ slice_index job.now i)) }
+// Whether the words of a held job's events are those of a job.
+fn same(events: &[u32], job: &[u8]) -> bool
+    ensures { MatchBool result (events.now ≡ job.now) (events.now ≢ job.now) }
 {
-    for k in 0..job.len() {
-        if words[at + k] != u32::from(job[k]) {
-            return false;
-        }
-    }
-    true
+    events.len() == job.len()
+        && events
+            .iter()
+            .zip(job)
+            .all(|(word, number)| *word == u32::from(*number))
 }
 
-// The number of the held job that is equal to a job, or else how many are held. Lengths are compared first.
+// The number of the held job that is equal to a job, or else how many are held: as `binary_search`, it answers the place
+// that was found or the one that is next.
 pub(crate) fn find(words: &[u32], used: usize, job: &[u8]) -> Result<usize, usize>
     requires within { used ≤ length words.now }
     requires laid { drop 1 (take used words.now) ≡ encode (held used words.now) }
     ensures { MatchResult result (λ n. HeldAt (held used words.now) job.now n) (λ n. (n ≡ length (held used words.now)) × NotHeld (held used words.now) job.now) }
 {
+    // An index, since jobs differ in length, which the word ahead of each tells.
     let mut at = 1;
     let mut n = 0;
     while at < used {
         let len = (words[at] - HEAD) as usize;
-        if len == job.len() && same(words, at + 1, job) {
+        if same(&words[at + 1..at + 1 + len], job) {
             return Ok(n);
         }
         at += 1 + len;

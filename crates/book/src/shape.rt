@@ -2,7 +2,8 @@ ghost use Rattle.std.specs.Prelude.{◌≡◌, ◌≤◌, length};
 ghost use Rattle.book.specs.Jobs.{Apart, Laid, Opens, EachSized, EachStepped, held};
 
 // Jobs of step numbers in lent memory, of which the first words are used. A book that was opened for a bad number of
-// steps or in bad memory is void: it uses no word.
+// steps or in bad memory is void: it uses no word. The words are the caller's, and those past the used ones stay as the
+// caller left them, so the book is a slice and a count.
 #[derive(Drop)]
 pub struct Book<'a> {
     pub(crate) words: &'a mut [u32],

@@ -18,7 +18,7 @@ fn entered_and_ended<T: Step>(
     job: &[T],
 ) -> Result<Entry, EnterFault>
     requires { Opens steps (length memory.old) }
-    ensures { memory.new ≡ written [] (numbers T.Step.order roster.now.entries.now job.now) result (slice_set memory.old 0 (2 ^ 31 + steps)) }
+    ensures { memory.new ≡ written [] (numbers T.cmp roster.now.entries.now job.now) result (slice_set memory.old 0 (2 ^ 31 + steps)) }
 {
     let mut book = Book::open(memory, steps);
     book.enter(roster, job)
@@ -37,17 +37,11 @@ mod tests {
     use words::WordTrail;
 
     fn name(text: &[u8]) -> Result<Name, Fail> {
-        match Name::new(text) {
-            Some(made) => Ok(made),
-            None => Err(Fail::new("no name")),
-        }
+        Name::new(text).ok_or_else(|| Fail::new("no name"))
     }
 
     fn code(code: u32) -> Result<Code, Fail> {
-        match Code::new(1, code) {
-            Some(made) => Ok(made),
-            None => Err(Fail::new("no code")),
-        }
+        Code::new(1, code).ok_or_else(|| Fail::new("no code"))
     }
 
     #[test]
@@ -78,9 +72,7 @@ mod tests {
             0,
             0,
         ];
-        for i in 0..9 {
-            assert_eq!(rt; memory[i], expected[i]);
-        }
+        assert_eq!(rt; memory, expected);
         Ok(())
     }
 
@@ -94,10 +86,7 @@ mod tests {
             entered_and_ended(&mut memory, 1, &roster, &[one]),
             Ok(Entry::New { number: 0 })
         );
-        assert_eq!(rt; memory[0], 0x8000_0001);
-        assert_eq!(rt; memory[1], 0x4000_0001);
-        assert_eq!(rt; memory[2], 0);
-        assert_eq!(rt; memory[3], 7);
+        assert_eq!(rt; memory, [0x8000_0001, 0x4000_0001, 0, 7]);
         Ok(())
     }
 
@@ -174,7 +163,7 @@ mod tests {
         );
         assert_eq!(rt; book.enter(&roster, &[one]), Err(EnterFault::Room));
         assert_eq!(rt;
-            EnterFault::Room.refusal(),
+            Refusal::from(EnterFault::Room),
             Refusal {
                 row: 6,
                 layer: 3,
@@ -215,7 +204,7 @@ mod tests {
         let fault = FeedFault::Trail { fault: odd, job: 1 };
         assert_eq!(rt; book.feed(&roster, &mut trail, &mut work), Err(fault));
         assert_eq!(rt;
-            fault.refusal(),
+            Refusal::from(fault),
             Refusal {
                 row: 8,
                 layer: 1,
@@ -257,7 +246,7 @@ mod tests {
         );
         assert_eq!(rt; book.feed(&roster, &mut trail, &mut work), Ok(1));
         assert_eq!(rt; book.feed(&roster, &mut trail, &mut work), Ok(0));
-        assert!(rt; trail.next(&mut work).is_err());
+        assert_eq!(rt; trail.next(&mut work), Ok(None));
         Ok(())
     }
 }

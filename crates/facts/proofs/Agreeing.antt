@@ -1,7 +1,7 @@
 -- The facts that differ by the rows are those that differ between the jobs
-use Rattle.std.proofs.Common.{◌≡◌, ℕ, ◌<◌, true, false, not, ◌&&◌, ◌↔◌}
+use Rattle.std.proofs.Common.{◌≡◌, ℕ, ◌<◌, Bool, true, false, not, ◌&&◌, ◌↔◌, Decides, true≢false, sym, refl}
 use mathlib.Core.Logic.Iff
-use Rattle.std.proofs.lemmas.Bool.{and_parts, not-true}
+use Rattle.std.proofs.lemmas.Bool.Decides.{Decides-and}
 use Rattle.flow.specs.Facts.{SameLoops, SameEnds, Agree}
 use Rattle.flow.specs.Flow.{Jobs, looping, only_before, only_after, first, last, feeds, feeds_of, unrelated, unrelated_of}
 use Rattle.flow.specs.Rows.{Shows, only_before_by, only_after_by}
@@ -39,7 +39,7 @@ module _ (js ks : Jobs) where
   as_ends : (SameSteps (first js) (first ks) × SameSteps (last js) (last ks)) ↔ SameEnds js ks
   as_ends = (λ h. record { firsts = h.0; lasts = h.1 }, λ h. (h.firsts, h.lasts))
 
-  module _ (x y : Relations) (sx : Shows js x) (sy : Shows ks y) (r : Differences) (by : DiffersBy x y r) where
+  module _ (x y : Relations) (sx : Shows js x) (sy : Shows ks y) (r : Differences) (by : DiffersBy (record { one = x; other = y }) r) where
     pub differs : Differs js ks r
     differs = record {
       seen_is = coe 0 1 (i. (r.seen ≡ false) ↔ SameSteps (λ s. sx.seen_is s i) (λ s. sy.seen_is s i)) by.seen_is;
@@ -57,24 +57,15 @@ module _ (js ks : Jobs) where
 
   -- no fact differs exactly if the jobs agree
   pub agrees : (r : Differences) → Differs js ks r → (none_of r ≡ true) ↔ Agree js ks
-  agrees r d = (
-    λ e.
-        let (p, kin) = and_parts _ (not r.kin) e in
-        let (q, fed) = and_parts _ (not r.feeds) p in
-        let (o, ends) = and_parts _ (not r.ends) q in
-        let (seen, loops) = and_parts (not r.seen) (not r.loops) o in
-        record {
-          same_seen = d.seen_is.0 (not-true r.seen seen);
-          same_loops = d.loops_is.0 (not-true r.loops loops);
-          same_ends = d.ends_is.0 (not-true r.ends ends);
-          same_feeds = d.feeds_is.0 (not-true r.feeds fed);
-          same_kin = d.kin_is.0 (not-true r.kin kin);
-        },
-    λ h.
-        let seen = d.seen_is.1 h.same_seen in
-        let loops = d.loops_is.1 h.same_loops in
-        let ends = d.ends_is.1 h.same_ends in
-        let fed = d.feeds_is.1 h.same_feeds in
-        let kin = d.kin_is.1 h.same_kin in
-        λ i. (((not (seen i) && not (loops i)) && not (ends i)) && not (fed i)) && not (kin i),
-  )
+  agrees r d =
+      let both = Decides-and (not r.seen) (not r.loops) (lacks r.seen d.seen_is) (lacks r.loops d.loops_is) in
+      let three = Decides-and _ (not r.ends) both (lacks r.ends d.ends_is) in
+      let four = Decides-and _ (not r.feeds) three (lacks r.feeds d.feeds_is) in
+      let all = Decides-and _ (not r.kin) four (lacks r.kin d.kin_is) in (
+        λ e. let ((((seen, loops), ends), feeds), kin) = all.0 e in record { same_seen = seen; same_loops = loops; same_ends = ends; same_feeds = feeds; same_kin = kin },
+        λ h. all.1 ((((h.same_seen, h.same_loops), h.same_ends), h.same_feeds), h.same_kin),
+      )
+    where
+      lacks : {P : Type 0} (b : Bool) → (b ≡ false) ↔ P → Decides (not b) P
+      lacks true h = (λ e. absurd (true≢false (sym e)), λ p. absurd (true≢false (h.1 p)))
+      lacks false h = (λ _. h.0 refl, λ _. refl)

@@ -5,3 +5,4 @@ pub mod Listings
 pub mod PlaceGroups
 pub mod Moves
 pub mod Law
+pub mod Asking

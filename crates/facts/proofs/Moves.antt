@@ -8,6 +8,7 @@ use Rattle.flow.specs.Flow.{Jobs, unrelated, leads, feeds}
 use Rattle.flow.specs.Facts.{SameFeeds, SameKin, Akin}
 use Rattle.flow.proofs.Bits.{alike}
 use Rattle.bonds.specs.Pairs.{place_pairs, feeder_mark, fed_mark}
+use Rattle.facts.specs.Compared.{Common}
 use Rattle.facts.proofs.Listings.{Moves, or_one, has_one, with_point}
 use Rattle.facts.proofs.PlaceGroups.{Fed, side, feeder_marked, marked_feeder, fed_marked, marked_fed, lawful, pairs_feeders, pairs_across, pairs_fed, feeds_parts, feeds_from}
 
@@ -29,20 +30,16 @@ module _ (js : Jobs) (g : ℕ) (paired : Paired (place_pairs js) g) where
 
 -- ---- from the facts
 
--- a and b both feed c, or c feeds both
-abbrev Common : Jobs → ℕ → ℕ → ℕ → Type 0
-Common js a b c = ((feeds js a c ≡ true) × (feeds js b c ≡ true)) ⊎ ((feeds js c a ≡ true) × (feeds js c b ≡ true))
-
 module _ (js ks : Jobs) (feed : SameFeeds js ks) (kin : SameKin js ks) where
-  common_moves : (a b c : ℕ) → a < 32 → b < 32 → c < 32 → Common js a b c → Common ks a b c
+  common_moves : (a b c : ℕ) → a < 32 → b < 32 → c < 32 → Common (feeds js) a b c → Common (feeds ks) a b c
   common_moves a b c l m n (inl (x, y)) = inl (sym (feed a c l n) ∙ x, sym (feed b c m n) ∙ y)
   common_moves a b c l m n (inr (x, y)) = inr (sym (feed c a n l) ∙ x, sym (feed c b n m) ∙ y)
 
-  self : (a b c : ℕ) → Common ks a b c → unrelated ks a a ≡ true
+  self : (a b c : ℕ) → Common (feeds ks) a b c → unrelated ks a a ≡ true
   self a b c (inl (x, _)) = (feeds_parts ks a c x).0
   self a b c (inr (x, _)) = (feeds_parts ks c a x).1
 
-  unrelated_moves : (a b c : ℕ) → a < 32 → b < 32 → c < 32 → Common js a b c → unrelated js a b ≡ true → unrelated ks a b ≡ true
+  unrelated_moves : (a b c : ℕ) → a < 32 → b < 32 → c < 32 → Common (feeds js) a b c → unrelated js a b ≡ true → unrelated ks a b ≡ true
   unrelated_moves a b c l m n d u =
       let d' = common_moves a b c l m n d in
       ⊎_elim (λ e. rw (← e) (self a b c d')) (λ e. sym (kin a b l m (e, (c, n, d)) (e, (c, n, d'))) ∙ u) (cases_eq a b)

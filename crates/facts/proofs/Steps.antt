@@ -1,9 +1,9 @@
 -- Lists of steps by their members, and the position of the first that passes a test
-use Rattle.std.proofs.Common.{◌≡◌, ℕ, suc, ◌<◌, ◌≤◌, Bool, true, false, cond, List, [], ◌∷◌, map, length, get_or, Decides, filter, sym, refl, ap, ◌∙◌, subst, ap₂, ⊎_elim, arith}
+use Rattle.std.proofs.Common.{◌≡◌, ℕ, suc, ◌<◌, ◌≤◌, Bool, true, false, cond, ◌||◌, List, [], ◌∷◌, map, length, get_or, Decides, filter, sym, refl, ap, ◌∙◌, subst, ap₂, arith}
 use Rattle.std.specs.List.{AllByRecursion as All}
 use Rattle.std.proofs.lemmas.List.FromFn.{get_or-range_with_len}
 use Rattle.std.proofs.ByRecursion.{All-get_or, All-from_get_or, Decides-by_and}
-use Rattle.std.proofs.lemmas.Bool.{both_ways, cases_Bool, cond-true, cond-false, or_cases}
+use Rattle.std.proofs.lemmas.Bool.{both_ways}
 use Rattle.flow.specs.Flow.{some}
 use Rattle.flow.proofs.Bits.{alike}
 use Rattle.net.specs.Net.{steps, those, every, same, position}
@@ -36,16 +36,13 @@ every_step t e = (every_decides t (λ s. t s ≡ true) (λ s. (λ h. h, λ h. h)
 
 kept_all : (P : ℕ → Type 0) (t : ℕ → Bool) (xs : List ℕ) → All (λ x. t x ≡ true → P x) xs → All P (filter t xs)
 kept_all P t [] a = tt
-kept_all P t (x ∷ xs) a =
-    let r = kept_all P t xs a.1 in
-    ⊎_elim (λ e. subst (All P) (sym (cond-true (t x) (x ∷ filter t xs) (filter t xs) e)) (a.0 e, r))
-    (λ e. subst (All P) (sym (cond-false (t x) (x ∷ filter t xs) (filter t xs) e)) r) (cases_Bool (t x))
+kept_all P t (x ∷ xs) a = elim (t x) as (λ b. (b ≡ true → P x) → All P (cond b (x ∷ filter t xs) (filter t xs))) [ true ↦ λ h. (h refl, kept_all P t xs a.1) | false ↦ λ h. kept_all P t xs a.1 ] a.0
 
 all_kept : (P : ℕ → Type 0) (t : ℕ → Bool) (xs : List ℕ) → All P (filter t xs) → All (λ x. t x ≡ true → P x) xs
 all_kept P t [] a = tt
 all_kept P t (x ∷ xs) a =
-    ⊎_elim (λ e. let b = subst (All P) (cond-true (t x) (x ∷ filter t xs) (filter t xs) e) a in (λ _. b.0, all_kept P t xs b.1))
-    (λ e. (λ h. absurd (both_ways (t x) e h), all_kept P t xs (subst (All P) (cond-false (t x) (x ∷ filter t xs) (filter t xs) e) a))) (cases_Bool (t x))
+    elim (t x) as (λ b. All P (cond b (x ∷ filter t xs) (filter t xs)) → (b ≡ true → P x) × All (λ x. t x ≡ true → P x) xs)
+    [ true ↦ λ k. (λ _. k.0, all_kept P t xs k.1) | false ↦ λ k. (λ h. absurd (both_ways false refl h), all_kept P t xs k) ] a
 
 pub those_all : (P : ℕ → Type 0) (t : ℕ → Bool) → ((s : ℕ) → s < 32 → t s ≡ true → P s) → All P (those t)
 those_all P t f = kept_all P t steps (all_steps (λ s. t s ≡ true → P s) f)
@@ -80,8 +77,8 @@ module _ {X : Type 0} where
   -- a function that tells the elements apart tells the lists apart
   pub map_one : (P : ℕ → Type 0) (f : ℕ → X) → ((x y : ℕ) → P x → P y → f x ≡ f y → x ≡ y) → (xs ys : List ℕ) → All P xs → All P ys → map f xs ≡ map f ys → xs ≡ ys
   map_one P f one [] [] a b e = refl
-  map_one P f one [] (y ∷ ys) a b e = let z : ◌≡◌ {A = ℕ} 0 1 = cc in absurd (omega arith)
-  map_one P f one (x ∷ xs) [] a b e = let z : ◌≡◌ {A = ℕ} 0 1 = cc in absurd (omega arith)
+  map_one P f one [] (y ∷ ys) a b e = cc
+  map_one P f one (x ∷ xs) [] a b e = cc
   map_one P f one (x ∷ xs) (y ∷ ys) a b e =
       let h : f x ≡ f y = cc in
       let k : map f xs ≡ map f ys = cc in
@@ -102,7 +99,5 @@ position_below t (x ∷ xs) =
 pub position_passes : (t : ℕ → Bool) (xs : List ℕ) → some t xs ≡ true → t (get_or xs (position t xs) 0) ≡ true
 position_passes t [] h = absurd (both_ways false refl h)
 position_passes t (x ∷ xs) h =
-    let at : ℕ → Type 0 = λ i. t (get_or (x ∷ xs) i 0) ≡ true in
-    ⊎_elim (λ e. subst at (sym (cond-true (t x) 0 (suc (position t xs)) e)) e)
-    (λ e. subst at (sym (cond-false (t x) 0 (suc (position t xs)) e))
-    (⊎_elim (λ d. absurd (both_ways (t x) e d)) (position_passes t xs) (or_cases (t x) (some t xs) h))) (cases_Bool (t x))
+    elim (t x) as (λ b. t x ≡ b → (b || some t xs) ≡ true → t (get_or (x ∷ xs) (cond b 0 (suc (position t xs))) 0) ≡ true)
+    [ true ↦ λ e _. e | false ↦ λ _ k. position_passes t xs k ] refl h

@@ -4,6 +4,7 @@ use Rattle.flow.specs.Bits.{bit, row}
 use Rattle.flow.specs.Flow.{feeds_of, unrelated_of}
 use Rattle.flow.specs.Rows.{only_before_by, only_after_by}
 use Rattle.flow.specs.declared.relations.Relations.{Relations}
+use Rattle.facts.specs.declared.both.Both.{Both}
 use Rattle.facts.specs.declared.shape.Differences.{Differences}
 
 -- which step feeds which, and which are unrelated
@@ -43,10 +44,33 @@ SameIfAkin f g u v a b = AkinOf f a b → AkinOf g a b → u a b ≡ v a b
 abbrev pub SameWhereAkin : (f g u v : ℕ → ℕ → Bool) → Type 0
 SameWhereAkin f g u v = (a : ℕ) → a < 32 → (b : ℕ) → b < 32 → SameIfAkin f g u v a b
 
+-- what the rows of two books have in common
+module _ (both : Both) where
+  -- the neighbours of the step t, if it loops in the one
+  abbrev pub SameNeighbours : ℕ → Type 0
+  SameNeighbours = SameIfLooping (bit both.one.looping) (only_before_by both.one) (only_before_by both.other) (only_after_by both.one) (only_after_by both.other)
+
+  -- the looping steps and their neighbours
+  abbrev pub SameLoopsBy : Type 0
+  SameLoopsBy = SameLooping (bit both.one.looping) (bit both.other.looping) (only_before_by both.one) (only_before_by both.other) (only_after_by both.one) (only_after_by both.other)
+
+  abbrev pub SameEndsBy : Type 0
+  SameEndsBy = SameSteps (bit both.one.first) (bit both.other.first) × SameSteps (bit both.one.last) (bit both.other.last)
+
+  abbrev pub SameFeedsBy : Type 0
+  SameFeedsBy = SamePairs (feeds_by both.one) (feeds_by both.other)
+
+  -- whether two steps are unrelated, if they are akin in both
+  abbrev pub SameKinOf : ℕ → ℕ → Type 0
+  SameKinOf = SameIfAkin (feeds_by both.one) (feeds_by both.other) (unrelated_by both.one) (unrelated_by both.other)
+
+  abbrev pub SameKinBy : Type 0
+  SameKinBy = SameWhereAkin (feeds_by both.one) (feeds_by both.other) (unrelated_by both.one) (unrelated_by both.other)
+
 -- each fact differs unless the rows have it in common
-pub record DiffersBy (x y : Relations) (r : Differences) : Type 0 where
-  pub seen_is : (r.seen ≡ false) ↔ SameSteps (bit x.seen) (bit y.seen)
-  pub loops_is : (r.loops ≡ false) ↔ SameLooping (bit x.looping) (bit y.looping) (only_before_by x) (only_before_by y) (only_after_by x) (only_after_by y)
-  pub ends_is : (r.ends ≡ false) ↔ (SameSteps (bit x.first) (bit y.first) × SameSteps (bit x.last) (bit y.last))
-  pub feeds_is : (r.feeds ≡ false) ↔ SamePairs (feeds_by x) (feeds_by y)
-  pub kin_is : (r.kin ≡ false) ↔ SameWhereAkin (feeds_by x) (feeds_by y) (unrelated_by x) (unrelated_by y)
+pub record DiffersBy (both : Both) (r : Differences) : Type 0 where
+  pub seen_is : (r.seen ≡ false) ↔ SameSteps (bit both.one.seen) (bit both.other.seen)
+  pub loops_is : (r.loops ≡ false) ↔ SameLoopsBy both
+  pub ends_is : (r.ends ≡ false) ↔ SameEndsBy both
+  pub feeds_is : (r.feeds ≡ false) ↔ SameFeedsBy both
+  pub kin_is : (r.kin ≡ false) ↔ SameKinBy both

@@ -1,28 +1,20 @@
 ghost use Rattle.std.specs.Prelude.{◌≡◌, false, ◌↔◌};
-ghost use Rattle.facts.specs.Compared.{SamePairs, SameSteps, feeds_by};
+ghost use Rattle.facts.specs.Compared.{SameFeedsBy, SameSteps, feeds_by};
 
-use flow::Relations;
+use crate::both::Both;
 
-// Whether a step feeds other steps in the one than in the other.
-fn feeds_differ_of(x: &Relations, y: &Relations, a: usize) -> bool
-    ensures { (result ≡ false) ↔ SameSteps (feeds_by x.now a) (feeds_by y.now a) }
-{
-    for b in 0..32 {
-        if x.feeds(a, b) != y.feeds(a, b) {
-            return true;
-        }
+impl Both {
+    // Whether a step feeds other steps in the one than in the other.
+    fn feeds_differ_of(&self, a: usize) -> bool
+        ensures { (result ≡ false) ↔ SameSteps (feeds_by self.now.one a) (feeds_by self.now.other a) }
+    {
+        (0..32).any(|b| self.one.feeds(a, b) != self.other.feeds(a, b))
     }
-    false
-}
 
-// Whether some step feeds other steps in the one than in the other.
-pub(crate) fn feeds_differ(x: &Relations, y: &Relations) -> bool
-    ensures { (result ≡ false) ↔ SamePairs (feeds_by x.now) (feeds_by y.now) }
-{
-    for a in 0..32 {
-        if feeds_differ_of(x, y, a) {
-            return true;
-        }
+    // Whether some step feeds other steps in the one than in the other.
+    pub(crate) fn feeds_differ(&self) -> bool
+        ensures { (result ≡ false) ↔ SameFeedsBy self.now }
+    {
+        (0..32).any(|a| self.feeds_differ_of(a))
     }
-    false
 }

@@ -1,6 +1,7 @@
 ghost use Rattle.std.specs.Prelude.{◌≡◌, ℕ, ◌<◌, true, false, ◌↔◌};
-ghost use Rattle.facts.specs.Compared.{AkinOf, Common, SameIfAkin, SameWhereAkin, feeds_by, unrelated_by};
+ghost use Rattle.facts.specs.Compared.{AkinOf, Common, SameKinBy, SameKinOf, feeds_by};
 
+use crate::both::Both;
 use flow::Relations;
 
 // Whether both steps feed the step c, or both are fed by it.
@@ -14,12 +15,7 @@ fn in_common(x: &Relations, a: usize, b: usize, c: usize) -> bool
 fn common(x: &Relations, a: usize, b: usize) -> bool
     ensures { (result ≡ true) ↔ ((c : ℕ) × (c < 32) × Common (feeds_by x.now) a b c) }
 {
-    for c in 0..32 {
-        if in_common(x, a, b, c) {
-            return true;
-        }
-    }
-    false
+    (0..32).any(|c| in_common(x, a, b, c))
 }
 
 // Whether two different steps feed a common step, or are fed by one.
@@ -29,33 +25,27 @@ fn akin(x: &Relations, a: usize, b: usize) -> bool
     a != b && common(x, a, b)
 }
 
-// Whether two steps are akin in both, and unrelated in one only.
-fn kin_differs(x: &Relations, y: &Relations, a: usize, b: usize) -> bool
-    ensures { (result ≡ false) ↔ SameIfAkin (feeds_by x.now) (feeds_by y.now) (unrelated_by x.now) (unrelated_by y.now) a b }
-{
-    akin(x, a, b) && akin(y, a, b) && x.unrelated(a, b) != y.unrelated(a, b)
-}
-
-// Whether a step is akin to some step in both, and unrelated to it in one only.
-fn kin_differ_of(x: &Relations, y: &Relations, a: usize) -> bool
-    ensures { (result ≡ false) ↔ ((b : ℕ) → b < 32 → SameIfAkin (feeds_by x.now) (feeds_by y.now) (unrelated_by x.now) (unrelated_by y.now) a b) }
-{
-    for b in 0..32 {
-        if kin_differs(x, y, a, b) {
-            return true;
-        }
+impl Both {
+    // Whether two steps are akin in both, and unrelated in one only.
+    fn kin_differs(&self, a: usize, b: usize) -> bool
+        ensures { (result ≡ false) ↔ SameKinOf self.now a b }
+    {
+        akin(&self.one, a, b)
+            && akin(&self.other, a, b)
+            && self.one.unrelated(a, b) != self.other.unrelated(a, b)
     }
-    false
-}
 
-// Whether some two steps are akin in both, and unrelated in one only.
-pub(crate) fn kin_differ(x: &Relations, y: &Relations) -> bool
-    ensures { (result ≡ false) ↔ SameWhereAkin (feeds_by x.now) (feeds_by y.now) (unrelated_by x.now) (unrelated_by y.now) }
-{
-    for a in 0..32 {
-        if kin_differ_of(x, y, a) {
-            return true;
-        }
+    // Whether a step is akin to some step in both, and unrelated to it in one only.
+    fn kin_differ_of(&self, a: usize) -> bool
+        ensures { (result ≡ false) ↔ ((b : ℕ) → b < 32 → SameKinOf self.now a b) }
+    {
+        (0..32).any(|b| self.kin_differs(a, b))
     }
-    false
+
+    // Whether some two steps are akin in both, and unrelated in one only.
+    pub(crate) fn kin_differ(&self) -> bool
+        ensures { (result ≡ false) ↔ SameKinBy self.now }
+    {
+        (0..32).any(|a| self.kin_differ_of(a))
+    }
 }

@@ -1,6 +1,7 @@
 // Which of the five facts, on which nets rest, differ between two books.
 #![tactic(auto)]
 
+mod both;
 pub mod comparing;
 mod feeding;
 mod kin;

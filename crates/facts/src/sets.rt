@@ -2,9 +2,11 @@ ghost use Rattle.std.specs.Prelude.{◌≡◌, false, ◌↔◌};
 ghost use Rattle.flow.specs.Bits.{bit};
 ghost use Rattle.facts.specs.Compared.{SameSteps};
 
-// Whether two sets differ in some step.
-pub(crate) fn sets_differ(a: u32, b: u32) -> bool
+use flow::StepSet;
+
+// Whether two sets differ in some step. As numbers, since a set tells other crates no bound.
+pub(crate) fn sets_differ(a: StepSet, b: StepSet) -> bool
     ensures { (result ≡ false) ↔ SameSteps (bit a) (bit b) }
 {
-    a != b
+    u32::from(a) != u32::from(b)
 }

@@ -2,7 +2,7 @@ ghost use Rattle.std.specs.Prelude.{◌≡◌};
 ghost use Rattle.facts.specs.Differences.{none_of};
 
 // Which facts differ between two books.
-#[derive(Clone, Copy, PartialEq, Eq, Debug)]
+#[derive(Clone, Copy, PartialEq, Eq, Default, Debug)]
 pub struct Differences {
     // which steps are seen
     pub seen: bool,
@@ -21,6 +21,6 @@ impl Differences {
     pub fn none(&self) -> bool
         ensures { result ≡ none_of self.now }
     {
-        !self.seen && !self.loops && !self.ends && !self.feeds && !self.kin
+        *self == Differences::default()
     }
 }

@@ -19,10 +19,7 @@ mod tests {
     };
 
     fn name(text: &[u8]) -> Result<Name, Fail> {
-        match Name::new(text) {
-            Some(made) => Ok(made),
-            None => Err(Fail::new("no name")),
-        }
+        Name::new(text).ok_or_else(|| Fail::new("no name"))
     }
 
     // Feeds a text of jobs of the steps A, B, C and D.

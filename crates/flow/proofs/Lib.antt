@@ -3,7 +3,10 @@ pub mod Growth
 pub mod Marks
 pub mod Tallying
 pub mod Turning
+pub mod FromFn
+pub mod Ascending
 pub mod Whole
 pub mod MeansJob
 pub mod MeansHeld
 pub mod Means
+pub mod Standing

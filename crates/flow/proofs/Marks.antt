@@ -1,10 +1,9 @@
 -- Steps that are added to sets and to rows
-use Rattle.std.proofs.Common.{◌≡◌, ℕ, ◌<◌, ◌≤◌, Bool, true, false, ◌&&◌, ◌||◌, eqb, List, length, get_or, set, replicate, MatchBool, sym, refl, ap, ◌∙◌, ⊎_elim, arith}
+use Rattle.std.proofs.Common.{◌≡◌, ℕ, ◌<◌, ◌≤◌, Bool, true, false, ◌&&◌, ◌||◌, eqb, List, length, get_or, set, MatchBool, sym, refl, ap, ◌∙◌, ⊎_elim, arith}
 use mathlib.Core.Bool.{or-false}
 use lib.Bits.{bit_or}
 use Rattle.std.proofs.lemmas.List.{get_or-set_same, get_or-set_other, get_or_past}
-use Rattle.std.proofs.lemmas.Bool.{cases_eq, eq-eqb, ne_eqb}
-use Rattle.groups.proofs.Reading.{zeros}
+use Rattle.std.proofs.lemmas.Bool.{cases_eq, cases_lt, eq-eqb, ne_eqb}
 use Rattle.flow.specs.Bits.{bit, row}
 use Rattle.flow.specs.Reading.{Added, Joined}
 use Rattle.flow.proofs.Bits.{bit_none, bit_or_lem}
@@ -30,10 +29,13 @@ row_set rows s g l a b =
     (λ n. rw (get_or-set_other rows s a (bit_or (get_or rows s 0) g) 0 (λ e. n (sym e)), ne_eqb s a n, or-false (row rows a b)))
     (cases_eq s a)
 
--- rows of zeros
-pub row_none : (n a b : ℕ) → row (replicate n 0) a b ≡ false
-row_none n a b = rw (zeros n a) (bit_none b)
-
 -- past the last row
 pub row_past : (rows : List ℕ) (a b : ℕ) → length rows ≤ a → row rows a b ≡ false
 row_past rows a b l = rw (get_or_past rows a 0 l) (bit_none b)
+
+-- a set with no steps, and rows of such sets
+pub no_steps : (g : ℕ) → g ≡ 0 → (s : ℕ) → bit g s ≡ false
+no_steps g e s = ap (λ n. bit n s) e ∙ bit_none s
+
+pub no_rows : (rows : List ℕ) → length rows ≡ 32 → ((a : ℕ) → a < 32 → get_or rows a 0 ≡ 0) → (a b : ℕ) → row rows a b ≡ false
+no_rows rows long each a b = ⊎_elim (λ l. no_steps (get_or rows a 0) (each a l) b) (λ l. row_past rows a b (omega arith)) (cases_lt a 32)

@@ -4,21 +4,21 @@ ghost use Rattle.flow.specs.Flow.{turn_of, leads_of, unrelated_of, beside_of, fe
 ghost use Rattle.flow.specs.Rows.{before_by, after_by, only_before_by, only_after_by, stands_by};
 
 use crate::relations::Relations;
-use crate::sets::{has, in_row, less, row_of};
+use crate::sets::StepSet;
 
 impl Relations {
     // Whether b comes right after a in a reduced job.
     pub fn precedes(&self, a: usize, b: usize) -> bool
         ensures { result ≡ row self.now.precedes a b }
     {
-        in_row(&self.precedes, a, b)
+        self.precedes.has(a, b)
     }
 
     // Whether two different steps each return right after the other in reduced jobs.
     pub fn turn(&self, a: usize, b: usize) -> bool
         ensures { result ≡ turn_of (row self.now.precedes) (row self.now.returns) a b }
     {
-        a != b && (in_row(&self.returns, a, b) && in_row(&self.returns, b, a))
+        a != b && (self.returns.has(a, b) && self.returns.has(b, a))
     }
 
     // Whether a precedes b, and b does not precede a or they turn.
@@ -53,41 +53,42 @@ impl Relations {
     pub fn loops(&self, s: usize) -> bool
         ensures { result ≡ bit self.now.looping s }
     {
-        has(self.looping, s)
+        self.looping.has(s)
     }
 
     // Whether a step stands in a reduced job.
     pub fn stands(&self, s: usize) -> bool
         ensures { result ≡ stands_by self.now s }
     {
-        has(self.seen, s) && !self.loops(s)
+        self.seen.has(s) && !self.loops(s)
     }
 
-    // The steps right before the step t in held jobs that do not loop.
-    fn before(&self, t: usize) -> u32
+    // The steps right before the step t in held jobs that do not loop. A function of the rows in place of this one and the
+    // next would be no plainer: it has no word of its own.
+    fn before(&self, t: usize) -> StepSet
         ensures { (s : ℕ) → bit result s ≡ before_by self.now t s }
     {
-        less(row_of(&self.followed, t), self.looping)
+        self.followed.row(t).without(self.looping)
     }
 
     // The steps right after the step t in held jobs that do not loop.
-    fn after(&self, t: usize) -> u32
+    fn after(&self, t: usize) -> StepSet
         ensures { (s : ℕ) → bit result s ≡ after_by self.now t s }
     {
-        less(row_of(&self.follows, t), self.looping)
+        self.follows.row(t).without(self.looping)
     }
 
     // The steps right before the step t in held jobs that do not loop and are not right after it.
-    pub fn only_before(&self, t: usize) -> u32
+    pub fn only_before(&self, t: usize) -> StepSet
         ensures { (s : ℕ) → bit result s ≡ only_before_by self.now t s }
     {
-        less(self.before(t), self.after(t))
+        self.before(t).without(self.after(t))
     }
 
     // The steps right after the step t in held jobs that do not loop and are not right before it.
-    pub fn only_after(&self, t: usize) -> u32
+    pub fn only_after(&self, t: usize) -> StepSet
         ensures { (s : ℕ) → bit result s ≡ only_after_by self.now t s }
     {
-        less(self.after(t), self.before(t))
+        self.after(t).without(self.before(t))
     }
 }

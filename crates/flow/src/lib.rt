@@ -2,11 +2,14 @@
 #![tactic(auto)]
 
 pub mod asking;
+pub mod members;
 mod noting;
 pub mod reading;
 pub mod relations;
+mod rows;
 pub mod sets;
 mod tally;
 
+pub use members::Members;
 pub use relations::Relations;
-pub use sets::has;
+pub use sets::StepSet;

@@ -1,18 +1,17 @@
-ghost use Rattle.std.specs.Prelude.{◌≡◌, length};
+use crate::rows::StepRelation;
+use crate::sets::StepSet;
 
-// The relations of the steps of jobs. A set of steps is a number in which the step s weighs 2^s; a row is the set of the
-// steps that one step stands in a relation with.
+// The relations of the steps of jobs.
 #[derive(Clone, Copy)]
 pub struct Relations {
-    pub seen: u32,
-    pub looping: u32,
-    pub first: u32,
-    pub last: u32,
+    pub seen: StepSet,
+    pub looping: StepSet,
+    pub first: StepSet,
+    pub last: StepSet,
     // the steps that come right after a step in a held job, and right before it
-    pub(crate) follows: [u32; 32],
-    pub(crate) followed: [u32; 32],
+    pub(crate) follows: StepRelation,
+    pub(crate) followed: StepRelation,
     // the steps that come right after a step in a reduced job, and those of them after which it comes right again
-    pub(crate) precedes: [u32; 32],
-    pub(crate) returns: [u32; 32],
-    ghost long: { (length follows ≡ 32) × (length followed ≡ 32) × (length precedes ≡ 32) × (length returns ≡ 32) },
+    pub(crate) precedes: StepRelation,
+    pub(crate) returns: StepRelation,
 }

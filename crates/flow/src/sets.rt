@@ -1,58 +1,87 @@
-ghost use Rattle.std.specs.Prelude.{◌≡◌, ℕ, ◌<◌, not, ◌&&◌, ◌==◌};
-ghost use Rattle.flow.specs.Bits.{bit, row};
-ghost use Rattle.flow.specs.Reading.{Added, Joined};
+ghost use Rattle.std.specs.Prelude.{◌≡◌, ℕ, ◌<◌, ◌≤◌, false, not, ◌&&◌, ◌==◌, bit_or};
+ghost use Rattle.flow.specs.Bits.{bit};
+ghost use Rattle.flow.specs.Reading.{Added};
 
-// The digit of a step in a set, which is 1 where it is in the set.
-fn digit(set: u32, s: usize) -> u32
-    requires { s < 32 }
-    ensures { (result == 1) ≡ bit set s }
-{
-    set >> s & 1
+use std::marker::Model;
+
+// A set of the steps 0 to 31. A clause sees it as the number in which the step s weighs 2^s.
+#[derive(Clone, Copy, PartialEq, Eq, Default, Debug)]
+pub struct StepSet {
+    bits: u32,
 }
 
-// Whether a step is in a set, in which it weighs 2^s.
-pub fn has(set: u32, s: usize) -> bool
-    ensures { result ≡ bit set s }
-{
-    s < 32 && digit(set, s) == 1
+impl Model for StepSet {
+    ghost use Rattle.std.specs.Prelude.{ℕ, ◌<◌, ◌^◌};
+
+    ghost Value = { ℕ };
+
+    ghost view = { λ s. s.bits };
+
+    ghost invariant = { λ s. s.bits < 2 ^ 32 };
+
+    ghost inverse = { λ n. record { bits = n } };
 }
 
-// The set that is row a.
-pub(crate) fn row_of(rows: &[u32; 32], a: usize) -> u32
-    ensures { (b : ℕ) → bit result b ≡ row rows.now a b }
-{
-    if a >= 32 {
-        return 0;
+impl From<u32> for StepSet {
+    ghost from_gives = { λ n r. r ≡ n };
+
+    fn from(bits: u32) -> StepSet {
+        StepSet { bits }
     }
-    rows[a]
 }
 
-// Whether b is in the set that is row a.
-pub(crate) fn in_row(rows: &[u32; 32], a: usize, b: usize) -> bool
-    ensures { result ≡ row rows.now a b }
-{
-    has(row_of(rows, a), b)
+impl From<StepSet> for u32 {
+    ghost from_gives = { λ s r. r ≡ s };
+
+    fn from(set: StepSet) -> u32 {
+        set.bits
+    }
 }
 
-// The first set without what the second has.
-pub(crate) fn less(set: u32, other: u32) -> u32
-    ensures { (s : ℕ) → bit result s ≡ (bit set s && not (bit other s)) }
-{
-    set & !other
-}
+impl StepSet {
+    // Whether a step is in the set. No number past 31 is.
+    pub fn has(self, step: usize) -> bool
+        ensures { result ≡ bit self step }
+    {
+        step < 32 && self.bits >> step & 1 == 1
+    }
 
-// The set with one step more.
-pub(crate) fn with(set: u32, step: usize) -> u32
-    requires { step < 32 }
-    ensures { Added set step result }
-{
-    set | 1u32 << step
-}
+    // Whether no step is in the set.
+    pub fn is_empty(self) -> bool
+        ensures { result ≡ (self == 0) }
+    {
+        self.bits == 0
+    }
 
-// Adds a set to the row of a step.
-pub(crate) fn join(rows: &mut [u32; 32], step: usize, set: u32)
-    requires { step < 32 }
-    ensures { Joined rows.old step set rows.new }
-{
-    rows[step] |= set;
+    // The set with one step more. A number past 31 is no step, and changes nothing.
+    pub fn with(self, step: usize) -> StepSet
+        ensures step { step < 32 → Added self step result }
+        ensures past { 32 ≤ step → result ≡ self }
+    {
+        if step >= 32 {
+            return self;
+        }
+        StepSet {
+            bits: self.bits | 1 << step,
+        }
+    }
+
+    // The steps that are in either set.
+    pub(crate) fn union(self, other: StepSet) -> StepSet
+        ensures both { result ≡ bit_or self other }
+        ensures past { (s : ℕ) → 32 ≤ s → bit result s ≡ false }
+    {
+        StepSet {
+            bits: self.bits | other.bits,
+        }
+    }
+
+    // The steps of the set that are not in the other.
+    pub fn without(self, other: StepSet) -> StepSet
+        ensures { (s : ℕ) → bit result s ≡ (bit self s && not (bit other s)) }
+    {
+        StepSet {
+            bits: self.bits & !other.bits,
+        }
+    }
 }

@@ -1,3 +1,4 @@
+use crate::declined::Declined;
 use book::{Book, FeedFault};
 use refusals::Refusal;
 use std::io;
@@ -11,17 +12,6 @@ pub(crate) const LONGEST_TEXT: usize = 65_536;
 // The words of a book's memory.
 const BOOK_WORDS: usize = 16_384;
 
-// What is declined ahead of a book, by its row.
-fn of_book(row: u8) -> Refusal {
-    Refusal {
-        row,
-        layer: 3,
-        job: 0,
-        place: 0,
-        cause: 0,
-    }
-}
-
 fn print_roster(rt: &HostRuntime, roster: &Roster<Name>) -> io::Result<()> {
     let count = roster.len();
     println!(rt; "strictly ascending, steps: {count}")?;
@@ -33,27 +23,29 @@ fn print_roster(rt: &HostRuntime, roster: &Roster<Name>) -> io::Result<()> {
 
 // How many jobs a feed accepted, whatever its answer.
 fn accepted(answer: &Result<u64, FeedFault>) -> u64 {
-    match answer {
-        Ok(count) => *count,
-        Err(fault) => fault.refusal().job,
+    match *answer {
+        Ok(count) => count,
+        Err(fault) => Refusal::from(fault).job,
     }
 }
 
 // Prints what the text says: the roster on its first line, then how many of its jobs a book accepted, without the step
-// that is erased. Answers why it goes no further, if it does not come to the end.
+// that is erased. Answers why it goes no further, if it does not come to the end: a result of its own, beside that of
+// printing.
 pub(crate) fn print_account(
     rt: &HostRuntime,
     text: &[u8],
     erased: Name,
-) -> io::Result<Option<Refusal>> {
+) -> io::Result<Result<(), Declined>> {
     if text.len() > LONGEST_TEXT {
-        return Ok(Some(of_book(2)));
+        return Ok(Err(Declined::TooLong));
     }
     let mut work = vec![in rt.alloc(); erased; 1000]?;
     let mut trail = TextTrail::new(text);
     let n = match trail.next(work.as_mut_slice()) {
-        Ok(n) => n,
-        Err(stop) => return Ok(Some(stop.refusal().unwrap_or(of_book(1)))),
+        Ok(Some(n)) => n,
+        Ok(None) => return Ok(Err(Declined::NoRoster)),
+        Err(stop) => return Ok(Err(Declined::Trail(stop))),
     };
     let steps = Vec::from_slice(rt.alloc(), &work.as_slice()[0..n])?;
     let roster = Roster::new(steps.as_slice());
@@ -66,8 +58,5 @@ pub(crate) fn print_account(
         let count = accepted(&answer);
         println!(rt; "accepted: {count}")?;
     }
-    match answer {
-        Ok(_) => Ok(None),
-        Err(fault) => Ok(Some(fault.refusal())),
-    }
+    Ok(answer.map(|_| ()).map_err(Declined::Feed))
 }

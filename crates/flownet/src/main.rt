@@ -1,16 +1,16 @@
-// Reads a batch from standard input and gives an account of what can be said of it so far: its roster, the lengths of its
-// jobs, and how it ended.
+// Reads a batch from standard input and gives an account of what can be said of it so far: its roster, how many of its jobs
+// a book accepted, and how it ended.
 #![tactic(auto)]
 
 use account::{LONGEST_TEXT, print_account};
-use anyhow::anyhow;
-use reasons::reason;
+use anyhow::Context;
+use refusals::Refusal;
 use std::io::Read;
 use std::process::ExitCode;
 use steps::Name;
 
 mod account;
-mod reasons;
+mod declined;
 
 fn main(rt: HostRuntime) -> anyhow::Result<ExitCode> {
     // One byte past the longest text is enough to see that there is more.
@@ -18,14 +18,12 @@ fn main(rt: HostRuntime) -> anyhow::Result<ExitCode> {
     rt.stdin()
         .take(LONGEST_TEXT as u64 + 1)
         .read_to_end(&mut text)?;
-    let Some(tick) = Name::new(b"TICK") else {
-        return Err(anyhow!("TICK is no name"));
-    };
-    let Some(refusal) = print_account(&rt, text.as_slice(), tick)? else {
+    let tick = Name::new(b"TICK").context("TICK is no name")?;
+    let Err(declined) = print_account(&rt, text.as_slice(), tick)? else {
         return Ok(ExitCode::SUCCESS);
     };
-    let why = reason(&refusal);
+    let refusal = Refusal::from(declined);
     println!(rt; "{refusal}")?;
-    eprintln!(rt; "flownet: {why}")?;
+    eprintln!(rt; "flownet: {declined}")?;
     Ok(ExitCode::FAILURE)
 }

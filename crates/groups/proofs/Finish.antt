@@ -1,37 +1,58 @@
 -- What the answers of a list rest on
-use Rattle.std.proofs.Common.{◌≡◌, ℕ, ◌+◌, ◌-◌, ◌<◌, ◌≤◌, Bool, List, ◌++◌, length, get_or, take, drop, Ok, Err, Result, sym, refl, ap, ◌∙◌, arith, length-take}
-use Rattle.std.proofs.lemmas.List.{length-take-le, get_or-take, get_or-drop, length-drop, ext_get_or, take-append-drop}
+use Rattle.std.proofs.Common.{◌≡◌, ℕ, ◌<◌, ◌≤◌, Bool, List, ◌++◌, length, get_or, take, drop, Ok, Err, Result, sym, refl, ap, ◌∙◌, arith, length-take}
+use Rattle.std.specs.Prelude.{Contains}
+use Rattle.std.proofs.lemmas.List.{length-take-le, get_or_default, take-append-drop}
+use Rattle.std.proofs.lemmas.List.Elements.{All-contains}
+use Rattle.std.proofs.lemmas.List.Sorted.{All-permutation, Contains-permutation}
 use Rattle.groups.specs.declared.faults.ListFault.{ListFault}
 use Rattle.groups.specs.declared.faults.ListFault.TheVariants.{TooMany, TooShort}
-use Rattle.groups.specs.declared.found.Found.{Found}
+use Rattle.groups.specs.declared.marks.Marks.{Marks}
+use Rattle.groups.specs.declared.rows.Rows.{Rows}
+use Rattle.groups.specs.Groups.{Listed}
 use Rattle.groups.specs.Listings.{Listing, OneListing}
-use Rattle.groups.specs.Rows.{Lawful}
-use Rattle.groups.specs.Search.{Many, Whole}
+use Rattle.groups.specs.Rows.{held, Lawful}
+use Rattle.groups.specs.Found.{Many, Whole}
 use Rattle.groups.specs.Sorting.{Sorted, Written}
 use Rattle.groups.specs.Told.{Answer, Told, OnlyTold}
 use Rattle.groups.proofs.Order.{clash}
 use Rattle.groups.proofs.Listings.{one_listing}
-use Rattle.groups.proofs.Pigeons.{no_more}
-use Rattle.groups.proofs.Exists.{a_listing}
+use Rattle.groups.proofs.Apart.{no_more}
+use Rattle.groups.proofs.Exists.{contains_at, a_listing}
 
-module _ (pairs : ℕ → ℕ → Bool) (lawful : Lawful pairs) (first second : ℕ) (old : List ℕ) where
-  pub told_many : Many pairs first second → Told pairs first second old old (Err TooMany)
-  told_many (ys, sound, apart) =
+module _ (rows : Rows) (marks : Marks) (old : List ℕ) where
+  abbrev pairs : ℕ → ℕ → Bool
+  pairs = held rows.bits
+
+  abbrev first : ℕ
+  first = marks.first
+
+  abbrev second : ℕ
+  second = marks.second
+
+  lawful : Lawful pairs
+  lawful = rows.lawful
+
+  -- a listing has all that is listed, and nothing else
+  has : (xs : List ℕ) → Listing pairs first second xs → (g : ℕ) → Listed pairs first second g → Contains xs g
+  has xs l g h = let (i, il, ie) = l.whole g h in (i, il, get_or_default xs i g 0 il ∙ ie)
+
+  pub told_many : Many rows marks → Told pairs first second old old (Err TooMany)
+  told_many (ys, long, sound, apart) =
       let (xs, l) = a_listing pairs lawful first second in
-      (xs, l, (no_more ys xs 257 (length xs) apart (λ i b. l.whole (get_or ys i 0) (sound i b)), refl))
+      let more = no_more ys xs apart (λ g c. has xs l g (All-contains (Listed pairs first second) ys g sound c)) in
+      (xs, l, (omega arith, refl))
 
-  module _ (found : Found) (whole : Whole pairs first second found) where
-    abbrev groups : List ℕ
-    groups = found.groups
-
+  module _ (found : List ℕ) (whole : Whole rows marks found) where
     abbrev n : ℕ
-    n = found.count
+    n = length found
 
     -- a listing has as many groups as were found
     long : (xs : List ℕ) → Listing pairs first second xs → length xs ≡ n
     long xs l =
-        let a = no_more xs groups (length xs) n (λ i j h b e. clash (get_or xs i 0) (get_or xs j 0) e (l.ascends i j h b)) (λ i b. whole.whole (get_or xs i 0) (l.sound i b)) in
-        let b = no_more groups xs n (length xs) whole.apart (λ i b. l.whole (get_or groups i 0) (whole.sound i b)) in
+        let a = no_more xs found (λ i j d h b e. clash (get_or xs i d) (get_or xs j d) e
+        (rw (get_or_default xs i d 0 (omega arith), get_or_default xs j d 0 b) (l.ascends i j h b)))
+        (λ g c. whole.whole g (let (i, il, ie) = contains_at xs g c in rw ie at (l.sound i il))) in
+        let b = no_more found xs whole.apart (λ g c. has xs l g (All-contains (Listed pairs first second) found g whole.sound c)) in
         omega arith
 
     told_short : length old < n → Told pairs first second old old (Err TooShort)
@@ -41,24 +62,17 @@ module _ (pairs : ℕ → ℕ → Bool) (lawful : Lawful pairs) (first second : 
         let few = whole.few in
         (xs, l, (omega arith, omega arith, refl))
 
-    told_listed : (new : List ℕ) → n ≤ length old → length new ≡ length old → Sorted groups old new n → Told pairs first second old new (Ok n)
+    told_listed : (new : List ℕ) → n ≤ length old → length new ≡ length old → Sorted found old new → Told pairs first second old new (Ok n)
     told_listed new room len s =
-        let e : length (take n new) ≡ n = length-take-le n new (omega arith) in
-        let at : (i : ℕ) → i < n → get_or (take n new) i 0 ≡ get_or new i 0 = λ i l. get_or-take n new i 0 l in (
-          take n new,
+        let front = take n new in
+        let e : length front ≡ n = length-take-le n new (omega arith) in (
+          front,
           record {
-            ascends = λ i j l b. let c : j < n = omega arith in let d : i < n = omega arith in rw (at i d) (rw (at j c) (s.ascends i j l c));
-            sound = λ i l. let c : i < n = omega arith in let (j, jl, je) = s.from i c in rw (at i c) (rw je (whole.sound j jl));
-            whole = λ g l. let (j, jl, je) = whole.whole g l in let (i, il, ie) = s.to j jl in (i, omega arith, at i il ∙ ie ∙ je);
+            ascends = λ i j l b. s.ascends i j 0 l b;
+            sound = λ i l. All-permutation (Listed pairs first second) found front s.same whole.sound i 0 l;
+            whole = λ g l. contains_at front g (Contains-permutation found front g s.same (whole.whole g l));
           },
-          (
-            sym e,
-            whole.few,
-            refl,
-            ext_get_or 0 (drop n new) (drop n old) (length-drop n new ∙ ap (λ x. x - n) len ∙ sym (length-drop n old))
-                (λ i l. get_or-drop n new i 0 ∙ s.rest (n + i) (omega arith) ∙ sym (get_or-drop n old i 0)),
-            len,
-          ),
+          (sym e, whole.few, refl, s.rest, len),
         )
 
     pub told_written : (new : List ℕ) (r : Result ℕ ListFault) → Written found old new r → Told pairs first second old new r

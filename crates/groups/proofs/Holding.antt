@@ -1,51 +1,82 @@
 -- What is found gets one more group
-use Rattle.std.proofs.Common.{◌≡◌, ℕ, ◌<◌, Bool, [], ◌∷◌, ◌++◌, get_or, ◌∙◌, ⊎_elim, arith}
-use Rattle.std.proofs.lemmas.List.{get_or-set_same, get_or-set_other, length-set, get_or_push, get_or_append_left}
-use Rattle.std.proofs.lemmas.Bool.{cases_eq}
-use Rattle.groups.specs.declared.found.Found.{Found}
-use Rattle.groups.specs.Groups.{Touches, Largest, Listed}
-use Rattle.groups.specs.Search.{Inside, Has, Covers, Holds, Many, Added, Kept, Covered}
+use Rattle.std.proofs.Common.{◌≡◌, ℕ, eqb, false, ◌<◌, ◌≤◌, List, [], ◌∷◌, ◌++◌, length, get_or, ◌∙◌, ⊎_elim, arith}
+use Rattle.std.specs.Prelude.{◌≢◌, Ok, Err, Result, MatchResult, All, Contains}
+use Rattle.std.specs.Coded.{le_prop}
+use Rattle.std.specs.List.{AllWithin}
+use mathlib.Core.HLevel.{⊥_prop}
+use Rattle.std.proofs.Math.Logic.{∥∥₁_elim}
+use Rattle.std.proofs.lemmas.Bool.{eqb-false}
+use Rattle.std.proofs.lemmas.List.{append_assoc, get_or_append_left, get_or_default, length_push, length-append}
+use Rattle.std.proofs.lemmas.List.Elements.{All-push, Contains-append_left}
+use Rattle.std.proofs.lemmas.List.Quantifiers.{all_pairs_push}
+use Rattle.arrayvec.specs.ArrayVec.{ArrayVec}
+use Rattle.groups.specs.declared.faults.ListFault.{ListFault}
+use Rattle.groups.specs.declared.faults.ListFault.TheVariants.{TooMany}
+use Rattle.groups.specs.declared.marks.Marks.{Marks}
+use Rattle.groups.specs.declared.rows.Rows.{Rows}
+use Rattle.groups.specs.declared.searching.Search.{Search}
+use Rattle.groups.specs.Groups.{Inside, Touches, Largest}
+use Rattle.groups.specs.Rows.{held}
+use Rattle.groups.specs.Sorting.{Added, Apart}
+use Rattle.groups.specs.Found.{Sought, Holds, Many}
+use Rattle.groups.specs.Search.{Covers, IsCovered, Kept}
+use Rattle.groups.proofs.Deciding.{if_listed}
 
-pub kept_trans : (a b c : Found) → Kept a b → Kept b c → Kept a c
-kept_trans a b c p q =
-    let h = p.more in
-    record { more = (let x = q.more in omega arith); same = λ i l. q.same i (omega arith) ∙ p.same i l }
+-- whether a set is a listed group is decided, so what is merely so of a search is so
+pub opened : (s : Search) → Holds s.rows s.marks s.found.items
+opened s = record {
+  few = ∥∥₁_elim s.holds le_prop (λ h. h.few);
+  sound = λ k d l. ⊎_elim (λ y. y) (λ n. absurd (∥∥₁_elim s.holds ⊥_prop (λ h. n (h.sound k d l))))
+      (if_listed (held s.rows.bits) s.rows.lawful s.marks.first s.marks.second (get_or s.found.items k d));
+  apart = λ i j d l b e. ∥∥₁_elim s.holds ⊥_prop (λ h. h.apart i j d l b e);
+}
 
-pub covers_kept : (a b : Found) (s : ℕ) → Kept a b → Covers a s → Covers b s
-covers_kept a b s k (i, l, c) = let h = k.more in (i, omega arith, λ p t. rw (k.same i l) (c p t))
+pub kept_trans : (a b c : Search) → Kept a b → Kept b c → Kept a c
+kept_trans a b c k l =
+    let (xs, d) = k.found in
+    let (ys, e) = l.found in
+    record { rows = l.rows ∙ k.rows; marks = l.marks ∙ k.marks; found = (xs ++ ys, e ∙ rw d (append_assoc a.found.items xs ys)) }
 
-module _ (pairs : ℕ → ℕ → Bool) (first second : ℕ) (old : Found) (holds : Holds pairs first second old)
-    (s g : ℕ) (large : Largest pairs g) (inside : Inside s g) (one : Touches s first) (two : Touches s second) (fresh : Has old g → ⊥) where
-  listed : Listed pairs first second g
-  listed = record { largest = large; one = (one.0, inside one.0 one.1, one.2); two = (two.0, inside two.0 two.1, two.2) }
+module _ (a b : Search) (k : Kept a b) where
+  pub kept_length : length a.found.items ≤ length b.found.items
+  kept_length = let (xs, e) = k.found in rw e (omega (arith, length-append a.found.items xs))
 
-  pub covered_new : (new : Found) → Added old new g → Covered pairs first second old new s
-  covered_new new (room, groups-is, count-is) =
-      let list = old.groups in
-      let n = old.count in
-      let long = holds.long in
-      let at : get_or new.groups n 0 ≡ g = rw groups-is (get_or-set_same list n g 0 (omega arith)) in
-      let same : (i : ℕ) → i < n → get_or new.groups i 0 ≡ get_or list i 0 = λ i l. rw groups-is (get_or-set_other list n i g 0 (omega arith)) in
-      record {
-        holds = record {
-          few = omega arith;
-          long = rw groups-is (length-set list n g ∙ long);
-          sound = λ i l. ⊎_elim (λ e. rw e (rw at listed)) (λ e. let b : i < n = omega arith in rw (same i b) (holds.sound i b)) (cases_eq i n);
-          apart = λ i j l b. let a : i < n = omega arith in
-              rw (same i a) (⊎_elim (λ e. rw e (rw at (λ q. fresh (i, a, q)))) (λ e. let d : j < n = omega arith in rw (same j d) (holds.apart i j l d)) (cases_eq j n));
-        };
-        kept = record { more = omega arith; same = same };
-        covers = λ _ _. (n, omega arith, λ p h. rw at (inside p h));
-      }
+  pub kept_has : (g : ℕ) → Contains a.found.items g → Contains b.found.items g
+  kept_has g h = let (xs, e) = k.found in rw e (Contains-append_left a.found.items xs g h)
 
-  pub many : old.count ≡ 256 → Many pairs first second
-  many e =
-      let list = old.groups in
-      let long = holds.long in
-      let at : get_or (list ++ g ∷ []) 256 0 ≡ g = get_or_push list g 0 256 long in
-      let same : (i : ℕ) → i < 256 → get_or (list ++ g ∷ []) i 0 ≡ get_or list i 0 = λ i l. get_or_append_left list (g ∷ []) 0 i (omega arith) in (
-        list ++ g ∷ [],
-        (λ i l. ⊎_elim (λ k. rw k (rw at listed)) (λ k. let b : i < 256 = omega arith in rw (same i b) (holds.sound i (omega arith))) (cases_eq i 256)),
-        (λ i j l b. let a : i < 256 = omega arith in
-            rw (same i a) (⊎_elim (λ k. rw k (rw at (λ q. fresh (i, omega arith, q)))) (λ k. let d : j < 256 = omega arith in rw (same j d) (holds.apart i j l (omega arith))) (cases_eq j 256))),
-      )
+  pub kept_at : (i : ℕ) → i < length a.found.items → get_or b.found.items i 0 ≡ get_or a.found.items i 0
+  kept_at i l = let (xs, e) = k.found in rw e (get_or_append_left a.found.items xs 0 i l)
+
+  covers_kept : (s : ℕ) → Covers a s → Covers b s
+  covers_kept s (i, g, l, at, c) = let (xs, e) = k.found in rw e (i, g, omega (arith, length-append a.found.items xs), get_or_append_left a.found.items xs g i l ∙ at, c)
+
+  pub is_covered_kept : (s : ℕ) → IsCovered a s → IsCovered b s
+  is_covered_kept s c x y = covers_kept s (c (rw k.marks at x) (rw k.marks at y))
+
+-- the answer of a search for g among what is found
+pub not_among : (found : List ℕ) (g : ℕ) → AllWithin (λ y. eqb y g ≡ false) found 0 (length found) → Contains found g → ⊥
+not_among found g none (k, l, e) = eqb-false (get_or found k g) g (none k g (omega arith) l) e
+
+pub sought : (rows : Rows) (marks : Marks) (s g : ℕ) → Largest (held rows.bits) g → Inside s g → Touches s marks.first × Touches s marks.second → Sought rows marks g
+sought rows marks s g large inside (one, two) = record { largest = large; one = (one.0, inside one.0 one.1, one.2); two = (two.0, inside two.0 two.1, two.2) }
+
+module _ (s : Search) (g : ℕ) (listed : Sought s.rows s.marks g) (fresh : Contains s.found.items g → ⊥) where
+  abbrev old : List ℕ
+  old = s.found.items
+
+  sound : All (Sought s.rows s.marks) (old ++ g ∷ [])
+  sound = All-push (Sought s.rows s.marks) old g (opened s).sound listed
+
+  apart : Apart (old ++ g ∷ [])
+  apart = all_pairs_push (λ x y. x ≢ y) old g (opened s).apart (λ k d l e. fresh (k, l, get_or_default old k g d l ∙ e))
+
+  pub many : length old ≡ 256 → Many s.rows s.marks
+  many e = (old ++ g ∷ [], omega (arith, length_push old g), sound, apart)
+
+  -- whether there was room or not
+  pub holds_more : {T : Type 0} (r : Result T ListFault) (new : ArrayVec ℕ)
+      → MatchResult r (λ _. Added old new.items g) (λ e. (e ≡ TooMany) × (length old ≡ 256) × (new ≡ s.found)) → ∥ Holds s.rows s.marks new.items ∥₁
+  holds_more (Ok x) new (room, e) =
+      let h : Holds s.rows s.marks (old ++ g ∷ []) = record { few = omega (arith, length_push old g); sound = sound; apart = apart } in
+      rw e (∣ h ∣₁)
+  holds_more (Err d) new (_, _, e) = rw e s.holds

@@ -1,11 +1,11 @@
 -- A row is read one point after another
-use Rattle.std.proofs.Common.{◌≡◌, ℕ, ◌+◌, ◌^◌, ◌<◌, Bool, true, false, List, get_or, replicate, sym, refl, ⊎_elim, arith}
+use Rattle.std.proofs.Common.{◌≡◌, ℕ, ◌+◌, ◌^◌, ◌<◌, ◌≤◌, Bool, true, false, List, get_or, replicate, sym, refl, ⊎_elim, arith}
 use lib.Bits.{bit_or}
 use Rattle.std.proofs.lemmas.List.{get_or_past, get_or-replicate, length-replicate}
 use Rattle.std.proofs.lemmas.Bool.{cases_eq, cases_lt, both_ways}
 use Rattle.groups.specs.Groups.{In}
 use Rattle.groups.specs.Rows.{Row, held}
-use Rattle.groups.proofs.Closure.{held_row}
+use Rattle.groups.proofs.RowBits.{held_row}
 use Rattle.groups.proofs.Sets.{in_or_l, in_or_r, or_in, in_one, one_in, empty}
 
 -- the points of the row are those below n that p is paired with
@@ -37,12 +37,15 @@ bool_same true b f g = sym (f refl)
 bool_same false true f g = g refl
 bool_same false false f g = refl
 
-pub row_none : (pairs : ℕ → ℕ → Bool) (p : ℕ) → ((q : ℕ) → pairs p q ≡ true → ⊥) → Row pairs p 0
+row_none : (pairs : ℕ → ℕ → Bool) (p : ℕ) → ((q : ℕ) → pairs p q ≡ true → ⊥) → Row pairs p 0
 row_none pairs p never = record { to = λ q e. absurd (never q e); from = λ q i. absurd (empty q i) }
 
-pub rows_held : (pairs : ℕ → ℕ → Bool) (rows : List ℕ) → ((p : ℕ) → Row pairs p (get_or rows p 0)) → held rows ≡ pairs
-rows_held pairs rows row = λ i p q.
-    bool_same (held rows p q) (pairs p q) (λ t. (row p).from q ((held_row rows p).to q t)) (λ t. (held_row rows p).from q ((row p).to q t)) i
+-- the rows of the points below n, and none of any other, where only those are paired
+pub rows_read : (pairs : ℕ → ℕ → Bool) (rows : List ℕ) (n : ℕ) → ((p : ℕ) → p < n → Row pairs p (get_or rows p 0)) → ((p : ℕ) → n ≤ p → get_or rows p 0 ≡ 0)
+    → ((p q : ℕ) → pairs p q ≡ true → p < n) → held rows ≡ pairs
+rows_read pairs rows n read rest lacks =
+    let row : (p : ℕ) → Row pairs p (get_or rows p 0) = λ p. ⊎_elim (read p) (λ l. rw (rest p l) (row_none pairs p (λ q t. let b = lacks p q t in omega arith))) (cases_lt p n) in
+    λ i p q. bool_same (held rows p q) (pairs p q) (λ t. (row p).from q ((held_row rows p).to q t)) (λ t. (held_row rows p).from q ((row p).to q t)) i
 
 pub zeros : (n k : ℕ) → get_or {A = ℕ} (replicate n 0) k 0 ≡ 0
 zeros n k = ⊎_elim (get_or-replicate {A = ℕ} n k 0 0) (λ l. get_or_past {X = ℕ} (replicate n 0) k 0 (rw (length-replicate {A = ℕ} n 0) l)) (cases_lt k n)

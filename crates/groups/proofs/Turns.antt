@@ -1,72 +1,75 @@
 -- The steps of the two loops that cover sets
-use Rattle.std.proofs.Common.{◌≡◌, ℕ, ◌+◌, ◌^◌, ◌<◌, true, ◌⊎◌, List, get_or, ap, ◌∙◌, inl, inr, ⊎_elim, arith}
+use Rattle.std.proofs.Common.{◌≡◌, ℕ, ◌+◌, ◌^◌, ◌<◌, true, ◌⊎◌, List, length, get_or, ap, ◌∙◌, inl, inr, ⊎_elim, arith}
+use Rattle.std.specs.Prelude.{Contains}
 use lib.Bits.{bit_and}
 use Rattle.std.proofs.lemmas.Bool.{cases_eq}
-use Rattle.groups.specs.declared.found.Found.{Found}
+use Rattle.groups.specs.declared.searching.Search.{Search}
 use Rattle.groups.specs.Groups.{In, Paired}
-use Rattle.groups.specs.Rows.{held, Lawful}
-use Rattle.groups.specs.Search.{Kept, Covered, two, SeededAt, Seeded, turned, ClosedAt, Closed}
-use Rattle.groups.proofs.Sets.{within, from_within, or_in, one_in, and_in}
-use Rattle.groups.proofs.Closure.{held_row}
-use Rattle.groups.proofs.Holding.{covers_kept}
+use Rattle.groups.specs.Rows.{held, Lawful, JoinsAll, turned}
+use Rattle.groups.specs.Search.{IsCovered, Kept, two, SeededAt, Seeded, ClosedAt, Closed}
+use Rattle.groups.proofs.Sets.{or_in, one_in, and_in}
+use Rattle.groups.proofs.RowBits.{held_row}
+use Rattle.groups.proofs.Holding.{is_covered_kept, kept_at}
 
 module _ (rows : List ℕ) (lawful : Lawful (held rows)) where
   -- the test of a seed
-  pub two_paired : (u v : ℕ) → bit_and (two u v) (get_or rows u 0) ≡ two u v → bit_and (two u v) (get_or rows v 0) ≡ two u v → Paired (held rows) (two u v)
-  two_paired u v a b p q i j =
-      let at : (x : ℕ) → (u ≡ x) ⊎ (v ≡ x) → (y : ℕ) → In (two u v) y → held rows x y ≡ true = λ x e y k.
-      ⊎_elim (λ s. rw (← s) ((held_row rows u).from y (within (two u v) (get_or rows u 0) a y k))) (λ s. rw (← s) ((held_row rows v).from y (within (two u v) (get_or rows v 0) b y k))) e in
-      at p (⊎_elim (λ o. inl (one_in u p o)) (λ o. inr (one_in v p o)) (or_in (2 ^ u) (2 ^ v) p i)) q j
+  pub two_paired : (u v : ℕ) → JoinsAll (held rows) u (two u v) → JoinsAll (held rows) v (two u v) → Paired (held rows) (two u v)
+  two_paired u v a b p q i j = ⊎_elim (λ o. rw (← one_in u p o) (a q j)) (λ o. rw (← one_in v p o) (b q j)) (or_in (2 ^ u) (2 ^ v) p i)
 
-  pub two_test : (u v : ℕ) → held rows u u ≡ true → held rows v v ≡ true → held rows u v ≡ true
-      → (bit_and (two u v) (get_or rows u 0) ≡ two u v) × (bit_and (two u v) (get_or rows v 0) ≡ two u v)
-  two_test u v a b c =
-      let split : (p : ℕ) → In (two u v) p → (u ≡ p) ⊎ (v ≡ p) = λ p i. ⊎_elim (λ o. inl (one_in u p o)) (λ o. inr (one_in v p o)) (or_in (2 ^ u) (2 ^ v) p i) in (
-        from_within (two u v) (get_or rows u 0) (λ p i. (held_row rows u).to p (⊎_elim (λ s. rw (← s) a) (λ s. rw (← s) c) (split p i))),
-        from_within (two u v) (get_or rows v 0) (λ p i. (held_row rows v).to p (⊎_elim (λ s. rw (← s) (lawful.even v u ∙ c)) (λ s. rw (← s) b) (split p i))),
-      )
+  two_test : (u v : ℕ) → held rows u u ≡ true → held rows v v ≡ true → held rows u v ≡ true → JoinsAll (held rows) u (two u v) × JoinsAll (held rows) v (two u v)
+  two_test u v a b c = (
+    (λ p i. ⊎_elim (λ o. rw (← one_in u p o) a) (λ o. rw (← one_in v p o) c) (or_in (2 ^ u) (2 ^ v) p i)),
+    (λ p i. ⊎_elim (λ o. rw (← one_in u p o) (lawful.even v u ∙ c)) (λ o. rw (← one_in v p o) b) (or_in (2 ^ u) (2 ^ v) p i)),
+  )
 
   -- the test of a turn
-  pub turned_paired : (g w : ℕ) → Paired (held rows) g → bit_and (turned rows g w) (get_or rows w 0) ≡ turned rows g w → Paired (held rows) (turned rows g w)
+  pub turned_paired : (g w : ℕ) → Paired (held rows) g → JoinsAll (held rows) w (turned rows g w) → Paired (held rows) (turned rows g w)
   turned_paired g w h t p q i j =
       let row = get_or rows w 0 in
-      let s = turned rows g w in
-      let at : (x : ℕ) → In s x → held rows w x ≡ true = λ x k. (held_row rows w).from x (within s row t x k) in
-      let split : (x : ℕ) → In s x → In g x ⊎ (w ≡ x) = λ x k. ⊎_elim (λ o. inl (and_in g row x o).0) (λ o. inr (one_in w x o)) (or_in (bit_and g row) (2 ^ w) x k) in
-      ⊎_elim (λ gp. ⊎_elim (λ gq. h p q gp gq) (λ e. rw (← e) (lawful.even p w ∙ at p i)) (split q j)) (λ e. rw (← e) (at q j)) (split p i)
+      let split : (x : ℕ) → In (turned rows g w) x → In g x ⊎ (w ≡ x) = λ x k. ⊎_elim (λ o. inl (and_in g row x o).0) (λ o. inr (one_in w x o)) (or_in (bit_and g row) (2 ^ w) x k) in
+      ⊎_elim (λ gp. ⊎_elim (λ gq. h p q gp gq) (λ e. rw (← e) (lawful.even p w ∙ t p i)) (split q j)) (λ e. rw (← e) (t q j)) (split p i)
 
-  pub turned_test : (g w : ℕ) → held rows w w ≡ true → bit_and (turned rows g w) (get_or rows w 0) ≡ turned rows g w
-  turned_test g w h =
+  turned_test : (g w : ℕ) → held rows w w ≡ true → JoinsAll (held rows) w (turned rows g w)
+  turned_test g w h p i =
       let row = get_or rows w 0 in
-      from_within (turned rows g w) row (λ p i. ⊎_elim (λ o. (and_in g row p o).1) (λ o. rw (← one_in w p o) ((held_row rows w).to w h)) (or_in (bit_and g row) (2 ^ w) p i))
+      ⊎_elim (λ o. (held_row rows w).from p (and_in g row p o).1) (λ o. rw (← one_in w p o) h) (or_in (bit_and g row) (2 ^ w) p i)
 
-  module _ (first second : ℕ) where
-    pub seeded_kept : (a b : Found) (m : ℕ) → Kept a b → Seeded (held rows) first second a m → Seeded (held rows) first second b m
-    seeded_kept a b m kept s u l v lv x y z t1 t2 = covers_kept a b (two u v) kept (s u l v lv x y z t1 t2)
+-- what is covered stays so
+module _ (a b : Search) (k : Kept a b) where
+  seeded_at_kept : (u m : ℕ) → SeededAt a u m → SeededAt b u m
+  seeded_at_kept u m s v l x y z = is_covered_kept a b k (two u v) (s v l (rw k.rows at x) (rw k.rows at y) (rw k.rows at z))
 
-    pub seeded_more : (a : Found) (u : ℕ) → Seeded (held rows) first second a u → SeededAt (held rows) first second a u 64 → Seeded (held rows) first second a (u + 1)
-    seeded_more a u s at x l = ⊎_elim (λ e. rw e at) (λ e. s x (omega arith)) (cases_eq x u)
+  pub seeded_kept : (m : ℕ) → Seeded a m → Seeded b m
+  seeded_kept m s u l = seeded_at_kept u 64 (s u l)
 
-    pub seeded_at : (a b : Found) (u v : ℕ) → Covered (held rows) first second a b (two u v) → SeededAt (held rows) first second a u v → SeededAt (held rows) first second b u (v + 1)
-    seeded_at a b u v c s x l p q r t1 t2 =
-        ⊎_elim (λ e. let h = c.covers in rw e (h (rw (← e) t1) (rw (← e) t2))) (λ e. covers_kept a b (two u x) c.kept (s x (omega arith) p q r t1 t2)) (cases_eq x v)
+  closed_at_kept : (g m : ℕ) → ClosedAt a g m → ClosedAt b g m
+  closed_at_kept g m s w l x = rw k.rows (is_covered_kept a b k (turned a.rows.bits g w) (s w l (rw k.rows at x)))
 
-    pub seeded_skip : (a : Found) (u v : ℕ) → ((bit_and (two u v) (get_or rows u 0) ≡ two u v) → (bit_and (two u v) (get_or rows v 0) ≡ two u v) → ⊥)
-        → SeededAt (held rows) first second a u v → SeededAt (held rows) first second a u (v + 1)
-    seeded_skip a u v nay s x l p q r t1 t2 =
-        ⊎_elim (λ e. let t = two_test u v p (rw e at q) (rw e at r) in absurd (nay t.0 t.1)) (λ e. s x (omega arith) p q r t1 t2) (cases_eq x v)
+  -- one more of each loop
+  pub seeded_at : (u v : ℕ) → IsCovered b (two u v) → SeededAt a u v → SeededAt b u (v + 1)
+  seeded_at u v c s x l p q r = ⊎_elim (λ e. rw e c) (λ e. seeded_at_kept u v s x (omega arith) p q r) (cases_eq x v)
 
-    pub closed_at : (a b : Found) (g w : ℕ) → Covered (held rows) first second a b (turned rows g w) → ClosedAt rows first second g a w → ClosedAt rows first second g b (w + 1)
-    closed_at a b g w c s x l p t1 t2 =
-        ⊎_elim (λ e. let h = c.covers in rw e (h (rw (← e) t1) (rw (← e) t2))) (λ e. covers_kept a b (turned rows g x) c.kept (s x (omega arith) p t1 t2)) (cases_eq x w)
+  pub closed_at : (g w : ℕ) → IsCovered b (turned b.rows.bits g w) → ClosedAt a g w → ClosedAt b g (w + 1)
+  closed_at g w c s x l p = ⊎_elim (λ e. rw e c) (λ e. closed_at_kept g w s x (omega arith) p) (cases_eq x w)
 
-    pub closed_skip : (a : Found) (g w : ℕ) → (bit_and (turned rows g w) (get_or rows w 0) ≡ turned rows g w → ⊥) → ClosedAt rows first second g a w → ClosedAt rows first second g a (w + 1)
-    closed_skip a g w nay s x l p t1 t2 = ⊎_elim (λ e. absurd (nay (turned_test g w (rw e at p)))) (λ e. s x (omega arith) p t1 t2) (cases_eq x w)
+  pub closed_more : (i : ℕ) → i < length a.found.items → Closed a i → ClosedAt b (get_or a.found.items i 0) 64 → Closed b (i + 1)
+  closed_more i li s at j l =
+      ⊎_elim (λ e. let q : get_or b.found.items j 0 ≡ get_or a.found.items i 0 = ap (λ x. get_or b.found.items x 0) e ∙ kept_at a b k i li in rw q at)
+      (λ e. let m : j < i = omega arith in rw (kept_at a b k j (omega arith)) (closed_at_kept (get_or a.found.items j 0) 64 (s j m))) (cases_eq j i)
 
-    pub closed_more : (a b : Found) (i : ℕ) → Kept a b → i < a.count → Closed rows first second a i → ClosedAt rows first second (get_or a.groups i 0) b 64 → Closed rows first second b (i + 1)
-    closed_more a b i k li s at j l w lw p t1 t2 =
-        ⊎_elim
-        (λ e. let q : get_or b.groups j 0 ≡ get_or a.groups i 0 = ap (λ x. get_or b.groups x 0) e ∙ k.same i li in rw q (at w lw p (rw q at t1) (rw q at t2)))
-        (λ e. let q : get_or b.groups j 0 ≡ get_or a.groups j 0 = k.same j (omega arith) in
-        rw q (covers_kept a b (turned rows (get_or a.groups j 0) w) k (s j (omega arith) w lw p (rw q at t1) (rw q at t2))))
-        (cases_eq j i)
+module _ (a : Search) where
+  pub seeded_more : (u : ℕ) → Seeded a u → SeededAt a u 64 → Seeded a (u + 1)
+  seeded_more u s at x l = ⊎_elim (λ e. rw e at) (λ e. s x (omega arith)) (cases_eq x u)
+
+  pub seeded_skip : (u v : ℕ) → (JoinsAll (held a.rows.bits) u (two u v) → JoinsAll (held a.rows.bits) v (two u v) → ⊥) → SeededAt a u v → SeededAt a u (v + 1)
+  seeded_skip u v nay s x l p q r =
+      ⊎_elim (λ e. let t = two_test a.rows.bits a.rows.lawful u v p (rw e at q) (rw e at r) in absurd (nay t.0 t.1)) (λ e. s x (omega arith) p q r) (cases_eq x v)
+
+  closed_skip : (g w : ℕ) → (held a.rows.bits w w ≡ true → IsCovered a (turned a.rows.bits g w)) → ClosedAt a g w → ClosedAt a g (w + 1)
+  closed_skip g w c s x l p = ⊎_elim (λ e. let h : held a.rows.bits w w ≡ true = rw e at p in rw e (c h)) (λ e. s x (omega arith) p) (cases_eq x w)
+
+  pub closed_none : (g w : ℕ) → (JoinsAll (held a.rows.bits) w (turned a.rows.bits g w) → ⊥) → ClosedAt a g w → ClosedAt a g (w + 1)
+  closed_none g w nay = closed_skip g w (λ h. absurd (nay (turned_test a.rows.bits a.rows.lawful g w h)))
+
+  pub closed_same : (g w : ℕ) → Contains a.found.items g → turned a.rows.bits g w ≡ g → ClosedAt a g w → ClosedAt a g (w + 1)
+  closed_same g w (k, l, at) e = closed_skip g w (λ h x y. (k, g, l, at, λ p i. rw e at i))

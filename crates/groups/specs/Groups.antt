@@ -13,6 +13,10 @@ Paired pairs g = (p q : ℕ) → In g p → In g q → pairs p q ≡ true
 abbrev pub Fits : (ℕ → ℕ → Bool) → ℕ → ℕ → Type 0
 Fits pairs g x = (pairs x x ≡ true) × ((p : ℕ) → In g p → pairs p x ≡ true)
 
+-- a has no point that b lacks
+abbrev pub Inside : ℕ → ℕ → Type 0
+Inside a b = (p : ℕ) → In a p → In b p
+
 -- the sets a and b share a point
 abbrev pub Touches : ℕ → ℕ → Type 0
 Touches a b = (p : ℕ) × In a p × In b p

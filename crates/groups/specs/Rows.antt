@@ -1,5 +1,5 @@
 -- Pairs as rows of bits
-use Rattle.std.specs.Prelude.{◌≡◌, ℕ, ◌/◌, ◌%◌, ◌^◌, ◌<◌, Bool, true, List, ◌==◌, slice_index}
+use Rattle.std.specs.Prelude.{◌≡◌, ℕ, ◌/◌, ◌%◌, ◌^◌, ◌<◌, Bool, true, List, ◌==◌, bit_and, bit_or, slice_index}
 use Rattle.groups.specs.Groups.{In}
 
 -- the pairs that rows of bits hold: the bit q of row p
@@ -15,3 +15,11 @@ pub record Lawful (pairs : ℕ → ℕ → Bool) : Type 0 where
 pub record Row (pairs : ℕ → ℕ → Bool) (p g : ℕ) : Type 0 where
   pub to : (q : ℕ) → pairs p q ≡ true → In g q
   pub from : (q : ℕ) → In g q → pairs p q ≡ true
+
+-- p is paired with every point of g
+abbrev pub JoinsAll : (ℕ → ℕ → Bool) → ℕ → ℕ → Type 0
+JoinsAll pairs p g = (q : ℕ) → In g q → pairs p q ≡ true
+
+-- w and the points of g that it is paired with
+abbrev pub turned : List ℕ → ℕ → ℕ → ℕ
+turned rows g w = bit_or (bit_and g (slice_index rows w)) (2 ^ w)

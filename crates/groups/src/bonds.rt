@@ -7,7 +7,8 @@ pub trait Bond {
 
     ghost pairs: { Self → ℕ → ℕ → Bool };
 
-    // How many points it has.
+    // How many points it has. That it stays as it was is told of the bond before and after a call, which no type holds; so
+    // with all that asks a bond.
     fn size(&mut self) -> usize
         ensures answer { result ≡ points self.old }
         ensures stays { points self.new ≡ points self.old }

@@ -12,21 +12,14 @@ pub enum ListFault {
     TooShort,
 }
 
-impl ListFault {
-    // The five numbers of the fault.
-    pub fn refusal(&self) -> Refusal
-        ensures { result ≡ refusal_of self.now }
-    {
-        let row = match *self {
-            ListFault::TooMany => 10,
-            ListFault::TooShort => 11,
-        };
-        Refusal {
-            row,
-            layer: 4,
-            job: 0,
-            place: 0,
-            cause: 0,
+// The five numbers of the fault.
+impl From<ListFault> for Refusal {
+    ghost from_gives = { λ f r. r ≡ refusal_of f };
+
+    fn from(fault: ListFault) -> Refusal {
+        match fault {
+            ListFault::TooMany => Refusal::new(10, 4),
+            ListFault::TooShort => Refusal::new(11, 4),
         }
     }
 }

@@ -5,8 +5,8 @@
 pub mod bonds;
 pub mod faults;
 mod found;
-mod growing;
 pub mod listing;
+mod marks;
 mod rows;
 mod searching;
 mod sorting;

@@ -1,96 +1,108 @@
-ghost use Rattle.std.specs.Prelude.{◌<◌};
+ghost use Rattle.std.specs.Prelude.{◌<◌, Contains};
 ghost use Rattle.groups.specs.Groups.{Paired};
-ghost use Rattle.groups.specs.Rows.{held, Lawful};
-ghost use Rattle.groups.specs.Search.{Holds, Whole, Kept, SeededAt, Seeded, ClosedAt, OrMany};
+ghost use Rattle.groups.specs.Rows.{held};
+ghost use Rattle.groups.specs.Found.{Holds, Whole, OrMany};
 
 use crate::faults::ListFault;
-use crate::found::{Found, MOST};
-use crate::growing::cover;
-use crate::rows::POINTS;
+use crate::found::{Found, add};
+use crate::marks::Marks;
+use crate::rows::{POINTS, Rows};
 
-// Covers u with each point that it is paired with.
-fn seed_at(
-    rows: &[u64; POINTS],
-    first: u64,
-    second: u64,
-    found: &mut Found,
-    u: usize,
-) -> Result<(), ListFault>
-    requires lawful { Lawful (held rows.now) }
-    requires holds { Holds (held rows.now) first second found.old }
-    requires within { u < 64 }
-    ensures { OrMany (held rows.now) first second result (λ _. Holds (held rows.now) first second found.new × Kept found.old found.new × SeededAt (held rows.now) first second found.new u 64) }
-{
-    for v in 0..POINTS {
-        let set = 1u64 << u | 1u64 << v;
-        if set & rows[u] == set && set & rows[v] == set {
-            cover(rows, first, second, found, set)?;
+// What is found so far of the largest groups of the rows that touch both marks.
+#[derive(Drop)]
+struct Search {
+    rows: Rows,
+    marks: Marks,
+    found: Found,
+    ghost holds: { ∥ Holds rows marks found.items ∥₁ },
+}
+
+impl Search {
+    ghost use Rattle.groups.specs.Search.{Kept, Covered, SeededAt, Seeded, ClosedAt};
+
+    // Finds a largest group that holds the set, where the set touches both marks.
+    fn cover(&mut self, set: u64) -> Result<(), ListFault>
+        requires { Paired (held self.old.rows.bits) set }
+        ensures { OrMany self.old.rows self.old.marks result (λ _. Covered self.old self.new set) }
+    {
+        if !self.marks.both_touch(set) {
+            return Ok(());
         }
-    }
-    Ok(())
-}
-
-// Covers every two points that are paired. A group that touches both marks has two such points, one of each mark, so that
-// the search comes near every group that it is to find.
-fn seed(rows: &[u64; POINTS], first: u64, second: u64, found: &mut Found) -> Result<(), ListFault>
-    requires lawful { Lawful (held rows.now) }
-    requires holds { Holds (held rows.now) first second found.old }
-    ensures { OrMany (held rows.now) first second result (λ _. Holds (held rows.now) first second found.new × Seeded (held rows.now) first second found.new 64) }
-{
-    for u in 0..POINTS {
-        seed_at(rows, first, second, found, u)?;
-    }
-    Ok(())
-}
-
-// Turns a group about each point: covers the point with those of the group that it is paired with.
-fn turn(
-    rows: &[u64; POINTS],
-    first: u64,
-    second: u64,
-    found: &mut Found,
-    group: u64,
-) -> Result<(), ListFault>
-    requires lawful { Lawful (held rows.now) }
-    requires paired { Paired (held rows.now) group }
-    requires holds { Holds (held rows.now) first second found.old }
-    ensures { OrMany (held rows.now) first second result (λ _. Holds (held rows.now) first second found.new × Kept found.old found.new × ClosedAt rows.now first second group found.new 64) }
-{
-    for w in 0..POINTS {
-        let set = group & rows[w] | 1u64 << w;
-        if set & rows[w] == set {
-            cover(rows, first, second, found, set)?;
+        let group = self.rows.grown(set);
+        if self.found.contains(&group) {
+            return Ok(());
         }
+        add(&mut self.found, group)
     }
-    Ok(())
-}
 
-// Turns every group, also those that come meanwhile. One turn about each point of a group leads to it from any group that
-// shares a point of each mark with it, so none is missed.
-fn close(rows: &[u64; POINTS], first: u64, second: u64, found: &mut Found) -> Result<(), ListFault>
-    requires lawful { Lawful (held rows.now) }
-    requires holds { Holds (held rows.now) first second found.old }
-    requires seeded { Seeded (held rows.now) first second found.old 64 }
-    ensures { OrMany (held rows.now) first second result (λ _. Whole (held rows.now) first second found.new) }
-{
-    let mut i = 0;
-    while i < found.count {
-        turn(rows, first, second, found, found.groups[i])?;
-        i += 1;
+    // Covers u with each point that it is paired with.
+    fn seed_at(&mut self, u: usize) -> Result<(), ListFault>
+        requires { u < 64 }
+        ensures { OrMany self.old.rows self.old.marks result (λ _. Kept self.old self.new × SeededAt self.new u 64) }
+    {
+        // By numbers here and below, since a point's weight is made of its number.
+        for v in 0..POINTS {
+            let set = 1u64 << u | 1u64 << v;
+            if self.rows.joins(u, set) && self.rows.joins(v, set) {
+                self.cover(set)?;
+            }
+        }
+        Ok(())
     }
-    Ok(())
+
+    // Covers every two points that are paired. A group that touches both marks has two such points, one of each mark, so
+    // that the search comes near every group that it is to find.
+    fn seed(&mut self) -> Result<(), ListFault>
+        ensures { OrMany self.old.rows self.old.marks result (λ _. Kept self.old self.new × Seeded self.new 64) }
+    {
+        for u in 0..POINTS {
+            self.seed_at(u)?;
+        }
+        Ok(())
+    }
+
+    // Turns a group about each point: covers the point with those of the group that it is paired with. Where these are the
+    // group itself, it is found already.
+    fn turn(&mut self, group: u64) -> Result<(), ListFault>
+        requires { Contains self.old.found.items group }
+        ensures { OrMany self.old.rows self.old.marks result (λ _. Kept self.old self.new × ClosedAt self.new group 64) }
+    {
+        for w in 0..POINTS {
+            let set = self.rows.turned(group, w);
+            if set != group && self.rows.joins(w, set) {
+                self.cover(set)?;
+            }
+        }
+        Ok(())
+    }
+
+    // Turns every group. One turn about each point of a group leads to it from any group that shares a point of each mark
+    // with it, so none is missed.
+    fn close(&mut self) -> Result<(), ListFault>
+        requires { Seeded self.old 64 }
+        ensures { OrMany self.old.rows self.old.marks result (λ _. Whole self.old.rows self.old.marks self.new.found.items) }
+    {
+        // An index, since groups come meanwhile.
+        let mut i = 0;
+        while i < self.found.len() {
+            let group = self.found[i];
+            self.turn(group)?;
+            i += 1;
+        }
+        Ok(())
+    }
 }
 
 // Every largest group that touches both marks.
-pub(crate) fn find_groups(rows: &[u64; POINTS], first: u64, second: u64) -> Result<Found, ListFault>
-    requires lawful { Lawful (held rows.now) }
-    ensures { OrMany (held rows.now) first second result (λ f. Whole (held rows.now) first second f) }
+pub(crate) fn find_groups(rows: Rows, marks: Marks) -> Result<Found, ListFault>
+    ensures { OrMany rows marks result (λ found. Whole rows marks found.items) }
 {
-    let mut found = Found {
-        groups: [0; MOST],
-        count: 0,
+    let mut search = Search {
+        rows,
+        marks,
+        found: Found::new(),
     };
-    seed(rows, first, second, &mut found)?;
-    close(rows, first, second, &mut found)?;
-    Ok(found)
+    search.seed()?;
+    search.close()?;
+    Ok(search.found)
 }

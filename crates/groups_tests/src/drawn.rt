@@ -1,6 +1,7 @@
 ghost use Rattle.std.specs.Prelude.{◌/◌, ◌^◌, ◌≤◌, ◌&&◌, ◌||◌, ◌==◌, bit_and, nat_lt, slice_index};
+ghost use Rattle.std.proofs.Common.{ap₂};
+ghost use Rattle.std.proofs.Math.Bool.{and_comm, or_comm};
 ghost use Rattle.std.proofs.lemmas.Bool.{and_parts, ltb-true};
-ghost use Rattle.groups_tests.specs.Laws.{either_way};
 
 use groups::Bond;
 
@@ -20,10 +21,8 @@ impl Drawn {
         requires { size ≤ 64 }
     {
         let mut rows = [0; 64];
-        for i in 0..64 {
-            if i < drawn.len() {
-                rows[i] = drawn[i];
-            }
+        for (row, given) in rows.iter_mut().zip(drawn) {
+            *row = *given;
         }
         Drawn {
             size,
@@ -40,13 +39,13 @@ impl Drawn {
 impl Bond for Drawn {
     ghost points = { λ s. s.size };
 
-    ghost pairs = { λ s p q. nat_lt p s.size && (nat_lt q s.size && (bit_and (slice_index s.rows p / 2 ^ q) 1 == 1 || bit_and (slice_index s.rows q / 2 ^ p) 1 == 1)) };
+    ghost pairs = { λ s p q. (nat_lt p s.size && nat_lt q s.size) && (bit_and (slice_index s.rows p / 2 ^ q) 1 == 1 || bit_and (slice_index s.rows q / 2 ^ p) 1 == 1) };
 
     ghost few = { λ s. s.few };
 
-    ghost symmetric = { λ s p q. either_way (nat_lt p s.size) (nat_lt q s.size) (bit_and (slice_index s.rows p / 2 ^ q) 1 == 1) (bit_and (slice_index s.rows q / 2 ^ p) 1 == 1) };
+    ghost symmetric = { λ s p q. ap₂ (λ x y. x && y) (and_comm (nat_lt p s.size) (nat_lt q s.size)) (or_comm (bit_and (slice_index s.rows p / 2 ^ q) 1 == 1) (bit_and (slice_index s.rows q / 2 ^ p) 1 == 1)) };
 
-    ghost lacks = { λ s p q h. ltb-true p s.size (and_parts _ _ h).0 };
+    ghost lacks = { λ s p q h. ltb-true p s.size (and_parts _ _ (and_parts _ _ h).0).0 };
 
     fn size(&mut self) -> usize {
         self.size
@@ -54,7 +53,6 @@ impl Bond for Drawn {
 
     fn pair(&mut self, p: usize, q: usize) -> bool {
         self.asked = self.asked.wrapping_add(1);
-        p < self.size
-            && (q < self.size && (self.rows[p] >> q & 1 == 1 || self.rows[q] >> p & 1 == 1))
+        p < self.size && q < self.size && (self.rows[p] >> q & 1 == 1 || self.rows[q] >> p & 1 == 1)
     }
 }

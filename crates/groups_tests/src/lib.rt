@@ -2,6 +2,8 @@
 // list can have and one more, and the list's memory.
 #![tactic(auto)]
 
+ghost use Rattle.std.specs.Prelude.{◌≤◌, length};
+
 #[cfg(test)]
 mod drawn;
 
@@ -20,8 +22,8 @@ mod tests {
     // 64 points that are paired with themselves only. Its rows are its groups.
     fn each_alone() -> [u64; 64] {
         let mut rows = [0; 64];
-        for p in 0..64 {
-            rows[p] = 1 << p;
+        for (p, row) in rows.iter_mut().enumerate() {
+            *row = 1 << p;
         }
         rows
     }
@@ -37,25 +39,24 @@ mod tests {
     }
 
     // The list is these groups, and the words after them are as they were.
-    fn lists(rt: &impl Abort, bond: &mut Drawn, first: u64, second: u64, groups: &[u64]) {
+    fn lists(rt: &impl Abort, bond: &mut Drawn, first: u64, second: u64, groups: &[u64])
+        requires { length groups.now ≤ 70 }
+    {
         let mut list = [7u64; 70];
         assert_eq!(rt;
             list_groups(bond, first, second, &mut list),
             Ok(groups.len())
         );
-        for i in 0..70 {
-            let due = if i < groups.len() { groups[i] } else { 7 };
-            assert_eq!(rt; list[i], due);
-        }
+        let mut due = [7u64; 70];
+        due[..groups.len()].copy_from_slice(groups);
+        assert_eq!(rt; list, due);
     }
 
     // The list is declined, and its memory is as it was.
     fn declines(rt: &impl Abort, bond: &mut Drawn, list: &mut [u64], fault: ListFault) {
         list.fill(7);
         assert_eq!(rt; list_groups(bond, ALL, ALL, list), Err(fault));
-        for word in list {
-            assert_eq!(rt; *word, 7);
-        }
+        assert!(rt; list.iter().all(|word| *word == 7));
     }
 
     #[test]
@@ -164,7 +165,10 @@ mod tests {
             place: 0,
             cause: 0,
         };
-        assert_eq!(rt; ListFault::TooMany.refusal(), many);
-        assert_eq!(rt; ListFault::TooShort.refusal(), Refusal { row: 11, ..many });
+        assert_eq!(rt; Refusal::from(ListFault::TooMany), many);
+        assert_eq!(rt;
+            Refusal::from(ListFault::TooShort),
+            Refusal { row: 11, ..many }
+        );
     }
 }

@@ -20,8 +20,9 @@ use Rattle.facts.proofs.PlaceGroups.{marked_fed}
 use Rattle.facts.proofs.Law.{tidy}
 use Rattle.listing.specs.Drawn.{DrawnFor}
 use Rattle.listing.specs.Listed.{Lists}
-use Rattle.listing.specs.Pieces.{paged}
+use Rattle.listing.specs.Pieces.{Tagged, paged}
 use Rattle.listing.proofs.Pieces.{Some, words_paged}
+use Rattle.listing.proofs.Tagging.{words_tagged}
 
 -- a test that a step passes keeps a step
 those_some : (t : ℕ → Bool) (s : ℕ) → s < 32 → t s ≡ true → Some (those t)
@@ -45,6 +46,9 @@ lists js ws d roster = record {
   written = ap (paged roster) d.written ∙ words_paged (map name_text roster) (net js d.groups) (tidy js d.groups d.few)
       (All-map (λ (p : Place). Some p.fed) place d.groups (All-from_get_or (λ g. Some (place g).fed) d.groups 0 (λ i l. fed_some (get_or d.groups i 0) (d.listed.sound i l).two)));
 }
+
+pub drawn_tagged : (js : Jobs) (ws : List ℕ) → Draws js ws → (k : ℕ) → k < length ws → Tagged (get_or ws k 0)
+drawn_tagged js ws d = subst (λ vs. (k : ℕ) → k < length vs → Tagged (get_or vs k 0)) (sym d.written) (words_tagged (net js d.groups) (tidy js d.groups d.few))
 
 -- ---- how many words there are
 

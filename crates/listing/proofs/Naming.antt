@@ -6,14 +6,12 @@ use Rattle.std.proofs.ByRecursion.{All-get_or, All-map, All-weaker, All-append}
 use Rattle.std.proofs.lemmas.List.{length-map, get_or-map}
 use Rattle.std.proofs.lemmas.Bool.{both_ways, and_parts, cases_order}
 use Rattle.steps.specs.declared.names.Name.{Name}
-use Rattle.steps.specs.declared.orders.Order.TheVariants.{Before, Same}
+use Rattle.std.specs.declared.cmp.Ordering.TheVariants.{Less, Equal}
 use Rattle.steps.specs.Kinds.{name_order, name_text}
 use Rattle.steps.specs.Making.{name_of}
-use Rattle.steps.specs.Orders.{OrderLaws}
 use Rattle.steps.specs.Ranges.{IsName, name_byte, name_bytes}
 use Rattle.steps.specs.Rosters.{Fit}
-use Rattle.steps.specs.Alike.{same_name}
-use Rattle.steps.specs.Lexical.{lexical_laws}
+use Rattle.steps.specs.Alike.{same_name, name_laws}
 use Rattle.facts.proofs.Steps.{map_one}
 use Rattle.listing.specs.Page.{named}
 use Rattle.listing.proofs.Lines.{Ending, Plain, Unmarked}
@@ -80,10 +78,9 @@ module _ (roster : List Name) (steps : ℕ) (fit : Fit name_order roster steps) 
   differ i j l m e =
       let x = get_or roster i (name_of []) in
       let y = get_or roster j (name_of []) in
-      let laws : OrderLaws name_order = lexical_laws name_text same_name in
       let same : x ≡ y = same_name x y (sym (get_or-map name_text roster i (name_of []) [] (omega arith)) ∙ (e ∙ get_or-map name_text roster j (name_of []) [] m)) in
-      let before : name_order x y ≡ Before = fit.0 i j (name_of []) l m in
-      let equal : name_order x y ≡ Same = ap (name_order x) (sym same) ∙ laws.equal_is_same x in
+      let before : name_order x y ≡ Less = fit.0 i j (name_of []) l m in
+      let equal : name_order x y ≡ Equal = ap (name_order x) (sym same) ∙ name_laws.equal_is_same x in
       let z : ◌≡◌ {A = ℕ} 0 1 = cc in
       omega arith
 

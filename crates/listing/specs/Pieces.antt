@@ -1,10 +1,14 @@
 -- The page of a net, word by word
-use Rattle.std.specs.Prelude.{ℕ, ◌/◌, ◌%◌, ◌^◌, Bool, cond, not, ◌&&◌, List, [], ◌∷◌, ◌++◌, map, codes, decimal, ◌==◌, nat_le, nat_lt, slice_index_or}
+use Rattle.std.specs.Prelude.{ℕ, ◌≤◌, ◌/◌, ◌%◌, ◌^◌, Bool, cond, not, ◌&&◌, List, [], ◌∷◌, ◌++◌, map, codes, decimal, ◌==◌, nat_le, nat_lt, slice_index_or}
 use Rattle.steps.specs.declared.names.Name.{Name}
 use Rattle.steps.specs.Kinds.{name_text}
 
 abbrev pub kind_of : ℕ → ℕ
 kind_of w = w / 2 ^ 28
+
+-- the word has one of the kinds that words of a net have
+abbrev pub Tagged : ℕ → Type 0
+Tagged w = (1 ≤ kind_of w) × (kind_of w ≤ 8)
 
 -- a text where it is due
 abbrev pub due : Bool → List ℕ → List ℕ

@@ -1,7 +1,9 @@
 ghost use Rattle.std.specs.Prelude.{◌≡◌};
+ghost use Rattle.net.specs.declared.faults.DrawFault.TheVariants.{Void as OfVoid};
 ghost use Rattle.listing.specs.declared.faults.PageFault.TheVariants.{Draw as OfDraw, Roster as OfRoster};
 ghost use Rattle.listing.specs.Faults.{page_refusal};
 
+use book::Void;
 use net::DrawFault;
 use refusals::Refusal;
 use steps::RosterFault;
@@ -29,14 +31,22 @@ impl From<DrawFault> for PageFault {
     }
 }
 
-impl PageFault {
-    // The five numbers of the refusal.
-    pub fn refusal(&self) -> Refusal
-        ensures { result ≡ page_refusal self.now }
-    {
-        match *self {
-            PageFault::Roster(fault) => fault.refusal(),
-            PageFault::Draw(fault) => fault.refusal(),
+impl From<Void> for PageFault {
+    ghost from_gives = { λ v r. r ≡ OfDraw (OfVoid v) };
+
+    fn from(void: Void) -> PageFault {
+        PageFault::Draw(DrawFault::Void(void))
+    }
+}
+
+// The five numbers of the refusal.
+impl From<PageFault> for Refusal {
+    ghost from_gives = { λ f r. r ≡ page_refusal f };
+
+    fn from(fault: PageFault) -> Refusal {
+        match fault {
+            PageFault::Roster(fault) => Refusal::from(fault),
+            PageFault::Draw(fault) => Refusal::from(fault),
         }
     }
 }

@@ -4,8 +4,9 @@ ghost use Rattle.listing.specs.Drawn.{DrawnFor};
 ghost use Rattle.listing.specs.Listed.{ListedOn, PagesTell};
 
 use crate::faults::PageFault;
-use crate::writing::{count_page, write_page};
+use crate::writing::Page;
 use book::Book;
+use cursors::write;
 use net::{DrawFault, draw};
 use steps::{Name, Roster};
 
@@ -24,19 +25,12 @@ fn draw_words<'a>(book: &Book, words: &'a mut [u32; MOST]) -> Result<&'a [u32], 
 fn list_net(book: &Book, roster: &Roster<Name>, page: &mut [u8]) -> Result<usize, PageFault>
     ensures { ListedOn book.now.steps (length (memory_of book.now)) (held_by book.now) roster.now.entries.now page.old page.new result }
 {
-    if let Err(void) = book.open_or_void() {
-        return Err(PageFault::Draw(DrawFault::Void(void)));
-    }
+    book.open_or_void()?;
     roster.fit(book.steps())?;
     let mut words = [0u32; MOST];
-    let net = match draw_words(book, &mut words) {
-        Ok(net) => net,
-        Err(fault) => return Err(PageFault::Draw(fault)),
-    };
-    if page.len() < count_page(roster.steps(), net) {
-        return Err(PageFault::Draw(DrawFault::TooShort));
-    }
-    Ok(write_page(roster.steps(), net, page))
+    let names = roster.steps();
+    let words = draw_words(book, &mut words)?;
+    Ok(write(&Page { names, words }, page).ok_or(DrawFault::TooShort)?)
 }
 
 // Lists the net of a book by name, and leaves the rest of the page as it was; where it declines, all of it. Answers how many

@@ -4,3 +4,4 @@ pub mod Faults
 pub mod Writing
 pub mod Seating
 pub mod Finding
+pub mod Kinds

@@ -1,5 +1,5 @@
 -- The places of looping steps, as rows tell them
-use Rattle.std.specs.Prelude.{◌≡◌, ℕ, ◌+◌, ◌<◌, Bool, true, false, cond, ◌&&◌, List, Some, None, Option, slice_index}
+use Rattle.std.specs.Prelude.{◌≡◌, ℕ, ◌+◌, ◌<◌, Bool, true, false, ◌&&◌, List, slice_index}
 use Rattle.flow.specs.declared.relations.Relations.{Relations}
 use Rattle.flow.specs.Bits.{bit}
 use Rattle.flow.specs.Flow.{some}
@@ -13,10 +13,6 @@ between from to g = every (λ s. same (bit g s) (from s) && same (bit g (32 + s)
 -- the step t sits on the place
 abbrev pub sits_by : Relations → ℕ → ℕ → Bool
 sits_by r t = between (only_before_by r t) (only_after_by r t)
-
--- the first of the places that passes the test
-unfoldable pub first_of : (ℕ → Bool) → List ℕ → Option ℕ
-first_of test groups = cond (some test groups) (Some (position test groups)) None
 
 -- each looping step below n sits on a place, whose number is its seat
 abbrev pub SeatsBelow : Relations → List ℕ → List ℕ → ℕ → Type 0

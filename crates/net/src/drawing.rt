@@ -4,25 +4,23 @@ ghost use Rattle.net.specs.Draw.{Drew, OnlyDrew};
 ghost use Rattle.net.specs.Finding.{Found};
 
 use crate::faults::DrawFault;
+use crate::places::PlaceList;
 use crate::plans::Plan;
-use crate::writing::{count_words, write_net};
-use bonds::{BondFault, list_places};
+use bonds::list_places;
 use book::Book;
-use groups::ListFault;
+use cursors::write;
 
 // The most places that a net has.
 const MOST: usize = 256;
 
 // Lists the places of a book's net.
-fn find_places<'a>(book: &Book, list: &'a mut [u64; MOST]) -> Result<&'a [u64], DrawFault>
+fn find_places<'a>(book: &Book, list: &'a mut [u64; MOST]) -> Result<PlaceList<'a>, DrawFault>
     ensures { Found book.now.steps (length (memory_of book.now)) (held_by book.now) result }
 {
-    match list_places(book, list) {
-        Ok(count) => Ok(list.split_at(count).0),
-        Err(BondFault::Void(void)) => Err(DrawFault::Void(void)),
-        Err(BondFault::List(ListFault::TooMany)) => Err(DrawFault::TooMany),
-        Err(BondFault::List(ListFault::TooShort)) => unreachable(),
-    }
+    let count = list_places(book, list)?;
+    Ok(PlaceList {
+        list: list.split_at(count).0,
+    })
 }
 
 // Draws the net of a book, row by row.
@@ -31,14 +29,12 @@ fn draw_net(book: &Book, out: &mut [u32]) -> Result<usize, DrawFault>
 {
     let mut list = [0u64; MOST];
     let places = find_places(book, &mut list)?;
+    // A match, since a plan holds places by reference beside sets, which `?` does not take.
     let plan = match Plan::of(book, places) {
         Ok(plan) => plan,
-        Err(step) => return Err(DrawFault::Unseated { step }),
+        Err(fault) => return Err(fault.into()),
     };
-    if out.len() < count_words(&plan, places) {
-        return Err(DrawFault::TooShort);
-    }
-    Ok(write_net(&plan, places, out))
+    write(&plan, out).ok_or(DrawFault::TooShort)
 }
 
 // Writes the words of a book's net at the start of the memory, and leaves the rest as it was; where it declines, all of it.

@@ -1,8 +1,10 @@
 ghost use Rattle.std.specs.Prelude.{◌≡◌};
-ghost use Rattle.net.specs.declared.faults.DrawFault.TheVariants.{Void as OfVoid};
-ghost use Rattle.net.specs.Faults.{draw_refusal};
+ghost use Rattle.net.specs.declared.faults.DrawFault.TheVariants.{Void as OfVoid, Unseated as OfUnseated};
+ghost use Rattle.net.specs.Faults.{draw_refusal, of_bond};
 
+use bonds::BondFault;
 use book::Void;
+use groups::ListFault;
 use refusals::Refusal;
 
 // Why a net is not drawn.
@@ -25,23 +27,46 @@ impl From<Void> for DrawFault {
     }
 }
 
-impl DrawFault {
-    // The five numbers of the refusal.
-    pub fn refusal(&self) -> Refusal
-        ensures { result ≡ draw_refusal self.now }
-    {
-        let (row, place) = match *self {
-            DrawFault::Void(void) => return void.refusal(),
-            DrawFault::TooMany => (10, 0),
-            DrawFault::Unseated { step } => (9, step),
-            DrawFault::TooShort => (11, 0),
-        };
-        Refusal {
-            row,
-            layer: 4,
-            job: 0,
-            place,
-            cause: 0,
+// Where the list of a net's places declines, the net is declined for the same reason.
+impl From<BondFault> for DrawFault {
+    ghost from_gives = { λ f r. r ≡ of_bond f };
+
+    fn from(fault: BondFault) -> DrawFault {
+        match fault {
+            BondFault::Void(void) => DrawFault::Void(void),
+            BondFault::List(ListFault::TooMany) => DrawFault::TooMany,
+            BondFault::List(ListFault::TooShort) => DrawFault::TooShort,
+        }
+    }
+}
+
+// The lowest looping step that sits on no place.
+#[derive(Clone, Copy, Debug)]
+pub(crate) struct Unseated {
+    pub(crate) step: usize,
+}
+
+impl From<Unseated> for DrawFault {
+    ghost from_gives = { λ f r. r ≡ OfUnseated f.step };
+
+    fn from(fault: Unseated) -> DrawFault {
+        DrawFault::Unseated { step: fault.step }
+    }
+}
+
+// The five numbers of the refusal.
+impl From<DrawFault> for Refusal {
+    ghost from_gives = { λ f r. r ≡ draw_refusal f };
+
+    fn from(fault: DrawFault) -> Refusal {
+        match fault {
+            DrawFault::Void(void) => Refusal::from(void),
+            DrawFault::TooMany => Refusal::new(10, 4),
+            DrawFault::Unseated { step } => Refusal {
+                place: step,
+                ..Refusal::new(9, 4)
+            },
+            DrawFault::TooShort => Refusal::new(11, 4),
         }
     }
 }

@@ -3,6 +3,8 @@
 
 pub mod drawing;
 pub mod faults;
+pub mod kinds;
+mod places;
 mod plans;
 mod points;
 mod seating;
@@ -10,3 +12,4 @@ mod writing;
 
 pub use drawing::draw;
 pub use faults::DrawFault;
+pub use kinds::Kind;

@@ -15,14 +15,16 @@ mod tests {
     use texts::TextTrail;
 
     fn name(text: &[u8]) -> Result<Name, Fail> {
-        match Name::new(text) {
-            Some(made) => Ok(made),
-            None => Err(Fail::new("no name")),
-        }
+        Name::new(text).ok_or_else(|| Fail::new("no name"))
     }
 
-    fn letters() -> Result<[Name; 4], Fail> {
-        Ok([name(b"A")?, name(b"B")?, name(b"C")?, name(b"D")?])
+    // Names of one letter each.
+    fn letters<const N: usize>(text: &[u8; N]) -> Result<[Name; N], Fail> {
+        let mut names = [name(b"A")?; N];
+        for (made, letter) in names.iter_mut().zip(text) {
+            *made = name(&[*letter])?;
+        }
+        Ok(names)
     }
 
     // Draws the net of a new book that is fed this batch.
@@ -45,10 +47,8 @@ mod tests {
 
     // The memory begins with the words, and then is as it was.
     fn begins(rt: &impl Abort, out: &[u32], words: &[u32]) {
-        for i in 0..out.len() {
-            let due = if i < words.len() { words[i] } else { 7 };
-            assert_eq!(rt; out[i], due);
-        }
+        assert!(rt; out.starts_with(words));
+        assert!(rt; out.iter().skip(words.len()).all(|word| *word == 7));
     }
 
     // Drawing into so much of the memory has this answer, and the memory then begins with the words.
@@ -113,10 +113,10 @@ mod tests {
 
     #[test]
     fn no_job_and_one_event(rt: HostRuntime) -> Result<(), Fail> {
-        draws(&rt, &letters()?, b"", &[0x8000_0000])?;
+        draws(&rt, &letters(b"ABCD")?, b"", &[0x8000_0000])?;
         draws(
             &rt,
-            &letters()?,
+            &letters(b"ABCD")?,
             b"A\n",
             &[0x1000_0000, 0x2000_0000, 0x3000_0000, 0x8000_0000],
         )
@@ -126,7 +126,7 @@ mod tests {
     fn steps_side_by_side(rt: HostRuntime) -> Result<(), Fail> {
         draws(
             &rt,
-            &letters()?,
+            &letters(b"ABCD")?,
             b"A B C D\nA C B D\n",
             &[
                 0x1000_0000,
@@ -156,7 +156,7 @@ mod tests {
     fn a_choice_of_steps(rt: HostRuntime) -> Result<(), Fail> {
         draws(
             &rt,
-            &letters()?,
+            &letters(b"ABCD")?,
             b"A B D\nA C D\n",
             &[
                 0x1000_0000,
@@ -182,7 +182,7 @@ mod tests {
     fn steps_that_turn(rt: HostRuntime) -> Result<(), Fail> {
         draws(
             &rt,
-            &letters()?,
+            &letters(b"ABCD")?,
             b"A B\nA C D B\nA C D C D B\n",
             &[
                 0x1000_0000,
@@ -204,7 +204,7 @@ mod tests {
         )?;
         draws(
             &rt,
-            &letters()?,
+            &letters(b"ABCD")?,
             b"A C D C B\n",
             &[
                 0x1000_0000,
@@ -226,7 +226,7 @@ mod tests {
 
     #[test]
     fn neighbours_on_both_sides_of_a_looping_step(rt: HostRuntime) -> Result<(), Fail> {
-        let names = [name(b"A")?, name(b"E")?, name(b"S")?, name(b"T")?];
+        let names = letters(b"AEST")?;
         draws(
             &rt,
             &names,
@@ -268,19 +268,19 @@ mod tests {
             0x6000_0003,
             0x8000_0002,
         ];
-        draws(&rt, &letters()?, b"A B\nC D\n", &words)?;
-        draws(&rt, &letters()?, b"A B\nC D\nA C A B\n", &words)
+        draws(&rt, &letters(b"ABCD")?, b"A B\nC D\n", &words)?;
+        draws(&rt, &letters(b"ABCD")?, b"A B\nC D\nA C A B\n", &words)
     }
 
     #[test]
     fn a_looping_step_that_sits_on_no_place(rt: HostRuntime) -> Result<(), Fail> {
-        let names = [name(b"A")?, name(b"T")?];
+        let names = letters(b"AT")?;
         let fault = DrawFault::Unseated { step: 1 };
         let mut out = [0u32; 24];
         draws_into(&rt, &mut out, 24, &names, b"A T T A\n", Err(fault), &[])?;
         draws_into(&rt, &mut out, 0, &names, b"A T T A\n", Err(fault), &[])?;
         assert_eq!(rt;
-            fault.refusal(),
+            Refusal::from(fault),
             Refusal {
                 row: 9,
                 layer: 4,
@@ -311,27 +311,7 @@ mod tests {
 
     #[test]
     fn nets_of_256_places_and_more(rt: HostRuntime) -> Result<(), Fail> {
-        let names = [
-            name(b"A")?,
-            name(b"B")?,
-            name(b"C")?,
-            name(b"D")?,
-            name(b"E")?,
-            name(b"F")?,
-            name(b"G")?,
-            name(b"H")?,
-            name(b"I")?,
-            name(b"J")?,
-            name(b"K")?,
-            name(b"L")?,
-            name(b"M")?,
-            name(b"N")?,
-            name(b"O")?,
-            name(b"P")?,
-            name(b"Q")?,
-            name(b"R")?,
-            name(b"Z")?,
-        ];
+        let names = letters(b"ABCDEFGHIJKLMNOPQRZ")?;
         let mut out = [7u32; 2595];
         let eight =
             b"A B Z\nB A Z\nC D Z\nD C Z\nE F Z\nF E Z\nG H Z\nH G Z\nI J Z\nJ I Z\nK L Z\nL K Z\nM N Z\nN M Z\nO P Z\nP O Z\n";

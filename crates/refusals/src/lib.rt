@@ -5,9 +5,9 @@ ghost use Rattle.std.specs.Prelude.{◌≡◌, ◌++◌, Some, codes, decimal};
 
 use std::fmt;
 
-// Why a call declined. The row is the reason, the layer is the part of the product that found it (1 trail, 2 roster,
-// 3 book, 4 net), the job and the place say where, and the cause tells the faults of a trail apart. What a reason does
-// not name is 0.
+// Why a call declined, in the five numbers that it is told by outside. The row is the reason, the layer is the part of the
+// product that found it (1 trail, 2 roster, 3 book, 4 net), the job and the place say where, and the cause tells the faults
+// of a trail apart. What a reason does not name is 0.
 #[derive(Clone, Copy, PartialEq, Eq, Debug)]
 pub struct Refusal {
     pub row: u8,
@@ -18,6 +18,19 @@ pub struct Refusal {
 }
 
 impl Refusal {
+    // The refusal of a row in a layer, that names nothing more.
+    pub fn new(row: u8, layer: u8) -> Refusal
+        ensures { result ≡ record { row = row; layer = layer; job = 0; place = 0; cause = 0 } }
+    {
+        Refusal {
+            row,
+            layer,
+            job: 0,
+            place: 0,
+            cause: 0,
+        }
+    }
+
     // The same refusal, of the job with this number.
     pub fn at_job(self, job: u64) -> Refusal
         ensures { result ≡ record { row = self.row; layer = self.layer; job = job; place = self.place; cause = self.cause } }

@@ -2,11 +2,11 @@
 use Rattle.std.proofs.Common.{◌≡◌, ℕ, suc, ◌+◌, ◌-◌, ◌<◌, ◌≤◌, List, [], ◌∷◌, ◌++◌, map, length, get_or, take, Ok, Err, Decides, Result, sym, refl, ap, ◌∙◌, subst, inl, inr, arith}
 use Rattle.std.proofs.lemmas.Slice.Eq.{compares_Decides}
 use Rattle.std.proofs.lemmas.Bool.{cases_Bool, cond-true, cond-false}
-use Rattle.steps.specs.declared.orders.Order.{Order}
+use Rattle.std.specs.declared.cmp.Ordering.{Ordering}
 use Rattle.steps.specs.declared.faults.RosterFault.TheVariants.{Unfit, Unlisted}
 use Rattle.steps.specs.Rosters.{numbers}
-use Rattle.trails.specs.declared.endings.Ending.{Ending}
-use Rattle.trails.specs.declared.endings.Ending.TheVariants.{End, Fault}
+use Rattle.trails.specs.Jobs.{Ending}
+use Rattle.std.specs.Prelude.{None as End, Some as Fault}
 use Rattle.book.specs.declared.entries.Entry.{Entry}
 use Rattle.book.specs.declared.entries.Entry.TheVariants.{New, Held}
 use Rattle.book.specs.declared.faults.Void.TheVariants.{Steps, Memory}
@@ -40,7 +40,7 @@ accept_new js job new =
 accept_held : (js : Jobs) (job : List ℕ) (n : ℕ) → HeldAt js job n → accept js job ≡ js
 accept_held js job n h = cond-true _ js (js ++ job ∷ []) ((held_means js job).1 (n, (h.0, sym h.1)))
 
-module _ {S : Type 0} (order : S → S → Order) (steps len : ℕ) (roster : List S) where
+module _ {S : Type 0} (order : S → S → Ordering) (steps len : ℕ) (roster : List S) where
   -- what an entry leaves is what its answer says was accepted
   after_enter_lem : (r : Result Entry EnterFault) (js js' : Jobs) (job : List S) → Entered order steps len js roster job r js' → js' ≡ after_enter order js roster job r
   after_enter_lem (Ok (New n)) js js' job t = t.4.3 ∙ sym (accept_new js _ t.4.0)
@@ -97,7 +97,7 @@ module _ {S : Type 0} (order : S → S → Order) (steps len : ℕ) (roster : Li
   after_feed_lem (Err (feed.Trail f n)) jobs e w hs hs' left t = from_none (Err (feed.Trail f n)) jobs e hs hs' left t.3
   after_feed_lem (Err (feed.Room n)) jobs e w hs hs' left t = from_none (Err (feed.Room n)) jobs e hs hs' left t.3
 
-module _ {S : Type 0} (order : S → S → Order) (roster : List S) where
+module _ {S : Type 0} (order : S → S → Ordering) (roster : List S) where
   pub run_holds : {v : View} {js : Jobs} → Run order roster v js → v.held ≡ js
   run_holds (opened o) = o.empty
   run_holds (entered {v} {v'} {R} {job} {r} run serves call) =

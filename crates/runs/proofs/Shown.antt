@@ -6,9 +6,8 @@ use Rattle.std.proofs.lemmas.Bool.{both_ways, ltb-true}
 use Rattle.steps.specs.declared.codes.Code.{Code}
 use Rattle.steps.specs.Kinds.{code_order}
 use Rattle.steps.specs.Rosters.{Fit, Listed, ListedBelow, numbers}
-use Rattle.steps.specs.Alike.{same_code}
+use Rattle.steps.specs.Alike.{code_laws}
 use Rattle.steps.proofs.Climbs.{Climbs, climbs_ascend}
-use Rattle.steps.specs.Lexical.{lexical_laws}
 use Rattle.book.specs.declared.entries.Entry.TheVariants.{New}
 use Rattle.book.specs.Enter.{Entered, NotHeld, unused}
 use Rattle.flow.specs.Bits.{bit}
@@ -30,7 +29,7 @@ climbs (suc (suc zero)) d l = refl
 climbs (suc (suc (suc k))) d l = absurd (omega arith)
 
 fit : Fit code_order roster 4
-fit = (climbs_ascend code_order (lexical_laws (λ a. a.unit ∷ a.code ∷ []) same_code) roster climbs, refl)
+fit = (climbs_ascend code_order code_laws roster climbs, refl)
 
 -- the job of these steps of the roster, and its numbers
 abbrev job : List ℕ → List Code

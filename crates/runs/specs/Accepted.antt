@@ -1,6 +1,6 @@
 -- The accepted jobs of a book, told by its calls and their answers alone
 use Rattle.std.specs.Prelude.{ℕ, Bool, true, false, cond, ◌&&◌, List, [], ◌∷◌, ◌++◌, map, take, Ok, Err, Result, ◌==◌}
-use Rattle.steps.specs.declared.orders.Order.{Order}
+use Rattle.std.specs.declared.cmp.Ordering.{Ordering}
 use Rattle.steps.specs.Rosters.{numbers}
 use Rattle.book.specs.declared.entries.Entry.{Entry}
 use Rattle.book.specs.declared.faults.EnterFault.{EnterFault}
@@ -27,7 +27,7 @@ abbrev pub accepted_by : Result ℕ FeedFault → ℕ
 accepted_by (Ok n) = n
 accepted_by (Err f) = (feed_refusal f).job
 
-module _ {S : Type 0} (order : S → S → Order) where
+module _ {S : Type 0} (order : S → S → Ordering) where
   -- the accepted jobs after an entry, and after a feed of these jobs
   abbrev pub after_enter : Jobs → List S → List S → Result Entry EnterFault → Jobs
   after_enter js roster job (Ok a) = accept js (numbers order roster job)

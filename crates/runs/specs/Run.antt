@@ -1,8 +1,8 @@
 -- Whole runs: every list of calls on a book, from its opening on, with no outsider between them
 use Rattle.std.specs.Prelude.{◌≡◌, ℕ, ◌⊎◌, ◌↔◌, List, [], length, take, Ok, Err, Result}
-use Rattle.steps.specs.declared.orders.Order.{Order}
+use Rattle.std.specs.declared.cmp.Ordering.{Ordering}
 use Rattle.steps.specs.Rosters.{numbers}
-use Rattle.trails.specs.declared.endings.Ending.{Ending}
+use Rattle.trails.specs.Jobs.{Ending}
 use Rattle.book.specs.declared.shape.Book.{Book}
 use Rattle.book.specs.declared.entries.Entry.{Entry}
 use Rattle.book.specs.declared.faults.EnterFault.{EnterFault}
@@ -47,7 +47,7 @@ abbrev pub FeedUnfit : Result ℕ FeedFault → Type 0
 FeedUnfit (Ok n) = ⊥
 FeedUnfit (Err f) = (feed_refusal f).row ≡ 3
 
-module _ {S : Type 0} (order : S → S → Order) where
+module _ {S : Type 0} (order : S → S → Ordering) where
   -- an entry, as `enter` ensures
   pub record Enters (v : View) (roster job : List S) (r : Result Entry EnterFault) (v' : View) : Type 0 where
     pub entered : Entered order v.steps (length v.memory) v.held roster job r v'.held

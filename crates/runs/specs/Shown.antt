@@ -4,7 +4,7 @@ use Rattle.std.proofs.Common.{lit≤}
 use Rattle.steps.specs.declared.codes.Code.{Code}
 use Rattle.steps.specs.declared.faults.RosterFault.TheVariants.{Unlisted}
 use Rattle.steps.specs.Kinds.{code_order}
-use Rattle.trails.specs.declared.endings.Ending.TheVariants.{End}
+use Rattle.std.specs.Prelude.{None as End}
 use Rattle.book.specs.declared.entries.Entry.TheVariants.{New}
 use Rattle.book.specs.declared.faults.EnterFault.TheVariants.{Roster}
 use Rattle.flow.specs.Flow.{Jobs}

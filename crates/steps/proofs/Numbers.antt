@@ -1,15 +1,15 @@
 -- The number that is told of a step is the one by the order. Assumes nothing.
 use Rattle.std.proofs.Common.{◌≡◌, ℕ, zero, suc, List, [], ◌∷◌, Some, refl, ap, ◌∙◌, arith}
-use Rattle.steps.specs.declared.orders.Order.{Order}
-use Rattle.steps.specs.declared.orders.Order.TheVariants.{Before, Same, After}
+use Rattle.std.specs.declared.cmp.Ordering.{Ordering}
+use Rattle.std.specs.declared.cmp.Ordering.TheVariants.{Less, Equal, Greater}
 use Rattle.steps.specs.Orders.{OrderLaws}
 use Rattle.steps.specs.Rosters.{Numbered, number_of, unless_same}
 
-module _ {S : Type 0} (order : S → S → Order) (laws : OrderLaws order) where
-  other : (o : Order) (n : ℕ) → (o ≡ Same → ⊥) → unless_same o n ≡ suc n
-  other Before n h = refl
-  other Same n h = absurd (h refl)
-  other After n h = refl
+module _ {S : Type 0} (order : S → S → Ordering) (laws : OrderLaws order) where
+  other : (o : Ordering) (n : ℕ) → (o ≡ Equal → ⊥) → unless_same o n ≡ suc n
+  other Less n h = refl
+  other Equal n h = absurd (h refl)
+  other Greater n h = refl
 
   pub numbered_is : (steps : List S) (x : S) (i : ℕ) → Numbered steps x (Some i) → number_of order steps x ≡ i
   numbered_is [] x i (l, here, before) = absurd (omega arith)

@@ -1,6 +1,6 @@
 -- Two steps of one kind that are told alike are one. Assumes nothing.
-use Rattle.std.specs.Prelude.{◌≡◌, ℕ, ◌-◌, List, [], ◌∷◌, ◌++◌, length, replicate}
-use Rattle.std.proofs.Common.{sym, ap, ◌∙◌, arith}
+use Rattle.std.specs.Prelude.{◌≡◌, ℕ, ◌-◌, Bool, ◌&&◌, List, ◌++◌, length, replicate, nat_eq, ◌==◌, refl}
+use Rattle.std.proofs.Common.{true≢false, sym, ap, ◌∙◌, arith}
 use mathlib.Core.HLevel.{is_prop→PathP, ×_prop}
 use mathlib.Core.List.{is_set}
 use Rattle.std.proofs.Math.Bool.{Bool-set}
@@ -9,13 +9,19 @@ use Rattle.std.proofs.Math.Nat.{ℕ_set}
 use Rattle.std.proofs.lemmas.List.{length-take-le, take-append-drop}
 use Rattle.steps.specs.declared.names.Name as name
 use Rattle.steps.specs.declared.codes.Code as code
+use Rattle.std.proofs.lemmas.Bool.{and_parts, and_from, eqb-true, eq-eqb}
+use Rattle.std.specs.Cmp.{Equal-is, IsTotalOrder, IsPartialOrder, both_ways, nat_cmp_total, on_total, then_total, partial_order_from_agreeing_total}
+use Rattle.std.specs.Cmp.Lexicographic.{on_texts, pointwise, bytes_decides}
+use Rattle.std.specs.FinMap.{nat_cmp-IsAntisymmetric, slice_cmp-IsAntisymmetric}
+use Rattle.std.specs.declared.cmp.Ordering.{Ordering}
+use Rattle.std.specs.declared.cmp.Ordering.TheVariants.{Less, Equal, Greater}
+use Rattle.std.specs.Ordering.{as_partial_cmp, is_eq, nat_cmp, ordering_then}
+use Rattle.steps.specs.Orders.{OrderLaws, order_laws}
 use Rattle.steps.specs.Ranges.{IsName}
-use Rattle.steps.specs.Kinds.{name_text}
+use Rattle.steps.specs.Kinds.{code_order, name_order, name_text}
 
-pub same_code : (a b : code.Code) → ◌≡◌ {A = List _} (a.unit ∷ a.code ∷ []) (b.unit ∷ b.code ∷ []) → a ≡ b
-same_code a b e =
-    let p : a.unit ≡ b.unit = cc in
-    let q : a.code ≡ b.code = cc in
+pub same_code : (a b : code.Code) → a.unit ≡ b.unit → a.code ≡ b.code → a ≡ b
+same_code a b p q =
     λ i. record {
       unit = p i;
       code = q i;
@@ -43,3 +49,33 @@ same_name a b e =
 
     whole : (x : name.Name) → padded (name_text x) x.len ≡ x.bytes
     whole x = ap (λ t. name_text x ++ t) (sym x.lawful.3) ∙ take-append-drop x.len x.bytes
+
+pub code_laws : OrderLaws code_order
+code_laws = order_laws (then_total (on_total (λ c. c.unit) nat_cmp_total) (on_total (λ c. c.code) nat_cmp_total)) (λ a b e.
+    let parts = both_equal (nat_cmp a.unit b.unit) (nat_cmp a.code b.code) e in
+    same_code a b (nat_cmp-IsAntisymmetric _ _ parts.0) (nat_cmp-IsAntisymmetric _ _ parts.1))
+  where
+    both_equal : (r s : Ordering) → ordering_then r s ≡ Equal → (r ≡ Equal) × (s ≡ Equal)
+    both_equal Less s e = absurd (true≢false (ap is_eq (sym e)))
+    both_equal Equal s e = (refl, e)
+    both_equal Greater s e = absurd (true≢false (ap is_eq (sym e)))
+
+pub name_laws : OrderLaws name_order
+name_laws = order_laws (on_texts name_text) (λ a b e. same_name a b (slice_cmp-IsAntisymmetric nat_cmp-IsAntisymmetric (name_text a) (name_text b) e))
+
+pub name_total : IsTotalOrder name_order
+name_total = on_texts name_text
+
+pub name_ties : (a b : name.Name) → (pointwise nat_eq a.bytes b.bytes && (a.len == b.len)) ≡ is_eq (name_order a b)
+name_ties a b = both_ways (same a b) (is_eq (name_order a b)) (λ e.
+    let parts = and_parts (pointwise nat_eq a.bytes b.bytes) (a.len == b.len) e in
+    let one = same_parts a b ((bytes_decides a.bytes b.bytes).0 parts.0) (eqb-true a.len b.len parts.1) in
+    ap (λ n. is_eq (name_order a n)) (sym one) ∙ ap is_eq (name_laws.equal_is_same a)) (λ e.
+    let one = name_laws.same_is_equal a b ((Equal-is (name_order a b)).0 e) in
+    ap (same a) (sym one) ∙ and_from (pointwise nat_eq a.bytes a.bytes) (a.len == a.len) ((bytes_decides a.bytes a.bytes).1 refl) (eq-eqb a.len a.len refl))
+  where
+    same : name.Name → name.Name → Bool
+    same x y = pointwise nat_eq x.bytes y.bytes && (x.len == y.len)
+
+pub name_partial : IsPartialOrder (λ a b. pointwise nat_eq a.bytes b.bytes && (a.len == b.len)) (as_partial_cmp name_order)
+name_partial = partial_order_from_agreeing_total name_order name_total (λ x y. refl) name_ties

@@ -1,7 +1,7 @@
 -- What a roster declines, and the five numbers of each fault
 use Rattle.std.specs.Prelude.{ℕ, List, Some, None, Ok, Err, Result}
 use Rattle.refusals.specs.declared.Refusal.{Refusal}
-use Rattle.steps.specs.declared.orders.Order.{Order}
+use Rattle.std.specs.declared.cmp.Ordering.{Ordering}
 use Rattle.steps.specs.declared.faults.RosterFault.{RosterFault}
 use Rattle.steps.specs.declared.faults.RosterFault.TheVariants.{Unfit, Unlisted}
 use Rattle.steps.specs.Rosters.{Fit, FirstUnlisted}
@@ -11,7 +11,7 @@ refusal_of Unfit = record { row = 3; layer = 2; job = 0; place = 0; cause = 0 }
 refusal_of (Unlisted place) = record { row = 5; layer = 2; job = 0; place = place; cause = 0 }
 
 -- whether a roster is fit for a call that asks for n steps
-abbrev pub FitOrNot : {S A : Type 0} → (S → S → Order) → List S → ℕ → Result A RosterFault → Type 0
+abbrev pub FitOrNot : {S A : Type 0} → (S → S → Ordering) → List S → ℕ → Result A RosterFault → Type 0
 FitOrNot order steps n (Ok _) = Fit order steps n
 FitOrNot order steps n (Err Unfit) = Fit order steps n → ⊥
 FitOrNot order steps n (Err (Unlisted place)) = ⊥

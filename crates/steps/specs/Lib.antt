@@ -4,5 +4,4 @@ pub mod Kinds
 pub mod Rosters
 pub mod Faults
 pub mod Making
-pub mod Lexical
 pub mod Alike

@@ -1,34 +1,23 @@
--- What every order of steps owes, and the order of lists of numbers that both kinds of step are ordered by
-use Rattle.std.specs.Prelude.{◌≡◌, ℕ, cond, List, [], ◌∷◌, nat_lt}
-use Rattle.steps.specs.declared.orders.Order.{Order}
-use Rattle.steps.specs.declared.orders.Order.TheVariants.{Before, Same, After}
+-- What every order of steps owes
+use Rattle.std.specs.Prelude.{◌≡◌}
+use Rattle.std.specs.Cmp.{IsTotalOrder, tied_itself}
+use Rattle.std.specs.FinMap.{IsAntisymmetric}
+use Rattle.std.specs.declared.cmp.Ordering.{Ordering}
+use Rattle.std.specs.declared.cmp.Ordering.TheVariants.{Less, Equal}
+use Rattle.std.specs.Ordering.{ordering_reverse}
 
--- the answer with the two steps swapped
-abbrev pub swapped : Order → Order
-swapped Before = After
-swapped Same = Same
-swapped After = Before
+-- the law of an order of steps: "same" means equal, swapping the two swaps before and after, "before" is transitive
+pub record OrderLaws {S : Type 0} (order : S → S → Ordering) : Type 0 where
+  pub same_is_equal : (x y : S) → order x y ≡ Equal → x ≡ y
+  pub equal_is_same : (x : S) → order x x ≡ Equal
+  pub swaps : (x y : S) → order y x ≡ ordering_reverse (order x y)
+  pub transitive : (x y z : S) → order x y ≡ Less → order y z ≡ Less → order x z ≡ Less
 
--- the law of an order of steps
-pub record OrderLaws {S : Type 0} (order : S → S → Order) : Type 0 where
-  pub same_is_equal : (x y : S) → order x y ≡ Same → x ≡ y
-  pub equal_is_same : (x : S) → order x x ≡ Same
-  pub swaps : (x y : S) → order y x ≡ swapped (order x y)
-  pub transitive : (x y z : S) → order x y ≡ Before → order y z ≡ Before → order x z ≡ Before
-
--- how two numbers stand
-abbrev pub between : ℕ → ℕ → Order
-between x y = cond (nat_lt x y) Before (cond (nat_lt y x) After Same)
-
--- the first answer, and the second where the first is the same
-abbrev pub then_by : Order → Order → Order
-then_by Before o = Before
-then_by Same o = o
-then_by After o = After
-
--- number by number, a shorter list ahead of its extensions
-abbrev pub lexical : List ℕ → List ℕ → Order
-lexical [] [] = Same
-lexical [] (y ∷ ys) = Before
-lexical (x ∷ xs) [] = After
-lexical (x ∷ xs) (y ∷ ys) = then_by (between x y) (lexical xs ys)
+-- a total order that tells only equal steps the same
+pub order_laws : {S : Type 0} {order : S → S → Ordering} → IsTotalOrder order → IsAntisymmetric order → OrderLaws order
+order_laws total same = record {
+  same_is_equal = same;
+  equal_is_same = tied_itself total;
+  swaps = λ x y. total.antisymm y x;
+  transitive = total.trans;
+}

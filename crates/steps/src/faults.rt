@@ -12,25 +12,16 @@ pub enum RosterFault {
     Unlisted { place: usize },
 }
 
-impl RosterFault {
-    // The five numbers of the fault.
-    pub fn refusal(&self) -> Refusal
-        ensures { result ≡ refusal_of self.now }
-    {
-        match *self {
-            RosterFault::Unfit => Refusal {
-                row: 3,
-                layer: 2,
-                job: 0,
-                place: 0,
-                cause: 0,
-            },
+// The five numbers of the fault.
+impl From<RosterFault> for Refusal {
+    ghost from_gives = { λ f r. r ≡ refusal_of f };
+
+    fn from(fault: RosterFault) -> Refusal {
+        match fault {
+            RosterFault::Unfit => Refusal::new(3, 2),
             RosterFault::Unlisted { place } => Refusal {
-                row: 5,
-                layer: 2,
-                job: 0,
                 place,
-                cause: 0,
+                ..Refusal::new(5, 2)
             },
         }
     }

@@ -6,12 +6,10 @@ pub mod codes;
 pub mod faults;
 pub mod kinds;
 pub mod names;
-pub mod orders;
 pub mod rosters;
 
 pub use codes::Code;
 pub use faults::RosterFault;
 pub use kinds::Step;
 pub use names::Name;
-pub use orders::Order;
 pub use rosters::Roster;

@@ -3,8 +3,9 @@ ghost use Rattle.steps.specs.Ranges.{IsName, name_byte, name_bytes};
 
 use std::{fmt, str};
 
-// A step as later cards write it: 1 to 8 bytes of A to Z, 0 to 9 and underscore. The bytes past the text are 0.
-#[derive(Clone, Copy, Debug)]
+// A step as later cards write it: 1 to 8 bytes of A to Z, 0 to 9 and underscore. The bytes past the text are 0, in fixed
+// memory, so that a name is plain data.
+#[derive(Clone, Copy, PartialEq, Eq, Debug)]
 pub struct Name {
     bytes: [u8; 8],
     len: u8,
@@ -15,18 +16,13 @@ pub struct Name {
 pub fn is_name_byte(b: u8) -> bool
     ensures { result ≡ name_byte b }
 {
-    (b >= b'A' && b <= b'Z') || (b >= b'0' && b <= b'9') || b == b'_'
+    matches!(b, b'A'..=b'Z' | b'0'..=b'9' | b'_')
 }
 
 fn all_name_bytes(text: &[u8]) -> bool
     ensures { result ≡ name_bytes text.now }
 {
-    for b in text {
-        if !is_name_byte(*b) {
-            return false;
-        }
-    }
-    true
+    text.iter().all(|b| is_name_byte(*b))
 }
 
 // The text, then zeros.
@@ -37,9 +33,7 @@ fn padded(text: &[u8]) -> [u8; 8]
     ensures len { length result ≡ 8 }
 {
     let mut bytes = [0; 8];
-    for (i, b) in text.iter().enumerate() {
-        bytes[i] = *b;
-    }
+    bytes[..text.len()].copy_from_slice(text);
     bytes
 }
 
@@ -71,9 +65,6 @@ impl fmt::Display for Name {
     ghost output = { λ n. Some (take n.len n.bytes) };
 
     fn fmt<W: fmt::Write>(&self, f: &mut fmt::Formatter<W>) -> fmt::Result {
-        match str::from_utf8(self.text()) {
-            Ok(text) => f.write_str(text),
-            Err(_) => Err(fmt::Error),
-        }
+        f.write_str(str::from_utf8(self.text()).map_err(|_| fmt::Error)?)
     }
 }

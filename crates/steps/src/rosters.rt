@@ -1,10 +1,9 @@
 ghost use Rattle.std.specs.Prelude.{◌≡◌, ℕ, ◌<◌, length, MatchBool, Option as Perhaps, MatchOption};
 ghost use Rattle.steps.specs.Faults.{FitOrNot, ListedOrNot};
-ghost use Rattle.steps.specs.Rosters.{Ascending, Numbered, FirstUnlisted};
+ghost use Rattle.steps.specs.Rosters.{Ascending, Numbered, Listed, FirstUnlisted};
 
 use crate::faults::RosterFault;
 use crate::kinds::Step;
-use crate::orders::Order;
 
 // The steps of a batch, in memory that the caller lends. Step number s is entry s.
 #[derive(Clone, Copy)]
@@ -12,41 +11,32 @@ pub struct Roster<'a, T: Step> {
     entries: &'a [T],
 }
 
-// The first step that is not after the one ahead of it.
-fn first_descent<T: Step>(steps: &[T]) -> Option<usize>
-    ensures { MatchOption result (Ascending T.Step.order steps.now) (λ i. (i < length steps.now) × (Ascending T.Step.order steps.now → ⊥)) }
+// Whether each step is before every later one.
+fn ascends<T: Step>(steps: &[T]) -> bool
+    ensures { MatchBool result (Ascending T.cmp steps.now) (Ascending T.cmp steps.now → ⊥) }
 {
-    for i in 1..steps.len() {
-        match steps[i - 1].compare(&steps[i]) {
-            Order::Before => {}
-            _ => return Some(i),
-        }
-    }
-    None
+    steps.is_sorted_by(|a, b| a < b)
 }
 
 // The first place of a step.
 fn place_of<T: Step>(steps: &[T], step: &T) -> Option<usize>
     ensures { Numbered steps.now step.now result }
 {
-    for (i, listed) in steps.iter().enumerate() {
-        if let Order::Same = listed.compare(step) {
-            return Some(i);
-        }
-    }
-    None
+    steps.iter().position(|listed| listed == step)
+}
+
+// Whether an event is one of the steps.
+fn is_listed<T: Step>(steps: &[T], event: &T) -> bool
+    ensures { MatchBool result (Listed steps.now event.now) (Listed steps.now event.now → ⊥) }
+{
+    steps.contains(event)
 }
 
 // The first event of a job that is none of the steps.
 fn first_unlisted<T: Step>(steps: &[T], job: &[T]) -> Option<usize>
     ensures { FirstUnlisted steps.now job.now result }
 {
-    for (at, event) in job.iter().enumerate() {
-        if let None = place_of(steps, event) {
-            return Some(at);
-        }
-    }
-    None
+    job.iter().position(|event| !is_listed(steps, event))
 }
 
 impl<'a, T: Step> Roster<'a, T> {
@@ -72,9 +62,9 @@ impl<'a, T: Step> Roster<'a, T> {
 
     // Whether each step is before every later one.
     pub fn is_ascending(&self) -> bool
-        ensures { MatchBool result (Ascending T.Step.order self.now.entries.now) (Ascending T.Step.order self.now.entries.now → ⊥) }
+        ensures { MatchBool result (Ascending T.cmp self.now.entries.now) (Ascending T.cmp self.now.entries.now → ⊥) }
     {
-        first_descent(self.entries).is_none()
+        ascends(self.entries)
     }
 
     // The number of a step, or none where it is not on the roster.
@@ -95,7 +85,7 @@ impl<'a, T: Step> Roster<'a, T> {
 
     // Declines the roster unless it is strictly ascending and has so many steps.
     pub fn fit(&self, count: usize) -> Result<(), RosterFault>
-        ensures { FitOrNot T.Step.order self.now.entries.now count result }
+        ensures { FitOrNot T.cmp self.now.entries.now count result }
     {
         if self.len() != count || !self.is_ascending() {
             return Err(RosterFault::Unfit);

@@ -4,22 +4,17 @@
 #[cfg(test)]
 mod tests {
     use refusals::Refusal;
+    use std::cmp::Ordering;
     use std::test::Fail;
     use steps::names::is_name_byte;
-    use steps::{Code, Name, Order, Roster, RosterFault, Step};
+    use steps::{Code, Name, Roster, RosterFault};
 
     fn code(unit: u8, code: u32) -> Result<Code, Fail> {
-        match Code::new(unit, code) {
-            Some(made) => Ok(made),
-            None => Err(Fail::new("no code")),
-        }
+        Code::new(unit, code).ok_or_else(|| Fail::new("no code"))
     }
 
     fn name(text: &[u8]) -> Result<Name, Fail> {
-        match Name::new(text) {
-            Some(made) => Ok(made),
-            None => Err(Fail::new("no name")),
-        }
+        Name::new(text).ok_or_else(|| Fail::new("no name"))
     }
 
     #[test]
@@ -41,29 +36,19 @@ mod tests {
         let low = code(1, 9)?;
         let high = code(2, 3)?;
         let higher = code(2, 4)?;
-        assert_eq!(rt; low.compare(&high), Order::Before);
-        assert_eq!(rt; high.compare(&low), Order::After);
-        assert_eq!(rt; high.compare(&higher), Order::Before);
-        assert_eq!(rt; higher.compare(&high), Order::After);
-        assert_eq!(rt; high.compare(&high), Order::Same);
+        assert_eq!(rt; low.cmp(&high), Ordering::Less);
+        assert_eq!(rt; high.cmp(&low), Ordering::Greater);
+        assert_eq!(rt; high.cmp(&higher), Ordering::Less);
+        assert_eq!(rt; higher.cmp(&high), Ordering::Greater);
+        assert_eq!(rt; high.cmp(&high), Ordering::Equal);
         Ok(())
     }
 
     #[test]
     fn name_bytes_and_their_neighbours(rt: HostRuntime) {
-        let mut count = 0u32;
-        for b in 0..=255u8 {
-            if is_name_byte(b) {
-                count = count.saturating_add(1);
-            }
-        }
-        assert_eq!(rt; count, 37);
-        for b in b"AZ09_" {
-            assert!(rt; is_name_byte(*b));
-        }
-        for b in b"@[/:^`az \n" {
-            assert!(rt; !is_name_byte(*b));
-        }
+        assert_eq!(rt; (0..=255u8).filter(|b| is_name_byte(*b)).count(), 37);
+        assert!(rt; b"AZ09_".iter().all(|b| is_name_byte(*b)));
+        assert!(rt; !b"@[/:^`az \n".iter().any(|b| is_name_byte(*b)));
     }
 
     #[test]
@@ -86,11 +71,11 @@ mod tests {
         let stem = name(b"READ")?;
         let longer = name(b"READ0")?;
         let other = name(b"REAP")?;
-        assert_eq!(rt; stem.compare(&longer), Order::Before);
-        assert_eq!(rt; longer.compare(&stem), Order::After);
-        assert_eq!(rt; longer.compare(&other), Order::Before);
-        assert_eq!(rt; other.compare(&longer), Order::After);
-        assert_eq!(rt; stem.compare(&stem), Order::Same);
+        assert_eq!(rt; stem.cmp(&longer), Ordering::Less);
+        assert_eq!(rt; longer.cmp(&stem), Ordering::Greater);
+        assert_eq!(rt; longer.cmp(&other), Ordering::Less);
+        assert_eq!(rt; other.cmp(&longer), Ordering::Greater);
+        assert_eq!(rt; stem.cmp(&stem), Ordering::Equal);
         Ok(())
     }
 
@@ -134,8 +119,8 @@ mod tests {
     fn rosters_of_1_32_and_33_codes(rt: HostRuntime) -> Result<(), Fail> {
         let first = code(0, 0)?;
         let mut codes = [first; 33];
-        for i in 0..33usize {
-            codes[i] = code(7, i as u32)?;
+        for (number, entry) in (0..33u32).zip(codes.iter_mut()) {
+            *entry = code(7, number)?;
         }
         assert_eq!(rt; Roster::new(&codes[0..1]).fit(1), Ok(()));
         assert_eq!(rt; Roster::new(&codes[0..32]).fit(32), Ok(()));
@@ -151,7 +136,7 @@ mod tests {
     #[test]
     fn faults_in_five_numbers(rt: HostRuntime) -> Result<(), Fail> {
         assert_eq!(rt;
-            RosterFault::Unfit.refusal(),
+            Refusal::from(RosterFault::Unfit),
             Refusal {
                 row: 3,
                 layer: 2,
@@ -160,7 +145,7 @@ mod tests {
                 cause: 0,
             }
         );
-        let unlisted = RosterFault::Unlisted { place: 7 }.refusal();
+        let unlisted = Refusal::from(RosterFault::Unlisted { place: 7 });
         assert_eq!(rt;
             unlisted,
             Refusal {

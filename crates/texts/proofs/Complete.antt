@@ -8,8 +8,8 @@ use Rattle.steps.specs.Ranges.{name_byte, name_bytes}
 use Rattle.steps.proofs.Naming.{name_of_name}
 use Rattle.trails.specs.declared.endings.Cause.{Cause}
 use Rattle.trails.specs.declared.endings.Cause.TheVariants.{OutOfTurn, JobSize, WordsRunOut, EndBits, OddByte, NinthByte, NameDue, CutLine}
-use Rattle.trails.specs.declared.endings.Ending.{Ending}
-use Rattle.trails.specs.declared.endings.Ending.TheVariants.{End, Fault}
+use Rattle.trails.specs.Jobs.{Ending}
+use Rattle.std.specs.Prelude.{None as End, Some as Fault}
 use Rattle.trails.specs.Jobs.{SizedTo}
 use Rattle.trails.specs.Told.{Told, faulty, first, after}
 use Rattle.texts.specs.Tokens.{letter, space, line_end, odd, run}

@@ -1,29 +1,27 @@
 -- A run of name bytes at an offset. Assumes nothing.
-use Rattle.std.proofs.Common.{◌≡◌, ℕ, zero, suc, ◌+◌, ◌-◌, ◌<◌, ◌≤◌, Bool, true, false, cond, List, [], ◌∷◌, length, get_or, take, drop, sym, refl, ap, ◌∙◌, ⊎_elim, arith}
+use Rattle.std.proofs.Common.{◌≡◌, ℕ, zero, suc, ◌+◌, ◌<◌, ◌≤◌, Bool, true, false, cond, List, [], ◌∷◌, length, get_or, take, drop, sym, refl, ap, ◌∙◌, ⊎_elim, arith}
 use Rattle.std.proofs.lemmas.List.{drop_more, drop_all}
 use Rattle.std.proofs.lemmas.Bool.{cases_lt, cases_Bool, and_from}
+use Rattle.std.specs.List.{prefix_len}
 use Rattle.steps.specs.Ranges.{name_byte, name_bytes}
 use Rattle.texts.specs.Tokens.{run}
 
-pub run_none : (bs : List ℕ) (m : ℕ) → m ≡ 0 → run m bs ≡ 0
-run_none bs m e = ap (λ n. run n bs) e
+-- a run is the longest prefix of name bytes of the first m
+pub run_prefix : (m : ℕ) (bs : List ℕ) → prefix_len name_byte (take m bs) ≡ run m bs
+run_prefix zero bs = refl
+run_prefix (suc m) [] = refl
+run_prefix (suc m) (b ∷ bs) = let e = run_prefix m bs in elim (name_byte b) as (λ x. cond x (1 + prefix_len name_byte (take m bs)) 0 ≡ cond x (suc (run m bs)) 0) [ true ↦ omega arith | false ↦ refl ]
 
 module _ (text : List ℕ) (i : ℕ) where
   -- the run at i, by the byte there
   run_at : (m : ℕ) → i < length text → run (suc m) (drop i text) ≡ cond (name_byte (get_or text i 0)) (suc (run m (drop (i + 1) text))) 0
   run_at m h = ap (run (suc m)) (drop_more text i 0 h)
 
-  pub run_more : (m : ℕ) → 0 < m → i < length text → true ≡ name_byte (get_or text i 0) → run m (drop i text) ≡ run (m - 1) (drop (i + 1) text) + 1
-  run_more zero z h e = omega arith
-  run_more (suc m) z h e =
-      let less : suc m - 1 ≡ m = omega arith in
-      run_at m h ∙ ap (λ b. cond b (suc (run m (drop (i + 1) text))) 0) (sym e) ∙ ap (λ n. suc (run n (drop (i + 1) text))) (sym less) ∙ omega arith
-
-  pub run_stops : (m : ℕ) → i < length text → false ≡ name_byte (get_or text i 0) → run m (drop i text) ≡ 0
+  run_stops : (m : ℕ) → i < length text → false ≡ name_byte (get_or text i 0) → run m (drop i text) ≡ 0
   run_stops zero h e = refl
   run_stops (suc m) h e = run_at m h ∙ ap (λ b. cond b (suc (run m (drop (i + 1) text))) 0) (sym e)
 
-  pub run_past : (m : ℕ) → length text ≤ i → run m (drop i text) ≡ 0
+  run_past : (m : ℕ) → length text ≤ i → run m (drop i text) ≡ 0
   run_past zero h = refl
   run_past (suc m) h = ap (run (suc m)) (drop_all i text h)
 

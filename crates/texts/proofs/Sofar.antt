@@ -1,5 +1,5 @@
 -- A line as far as it was read, token by token. Assumes nothing.
-use Rattle.std.proofs.Common.{◌≡◌, ℕ, ◌+◌, ◌<◌, ◌≤◌, Bool, true, false, ltb, List, [], ◌∷◌, ◌++◌, length, get_or, take, drop, set, sym, refl, ap, ◌∙◌, subst, inl, inr, ⊎_elim, arith, Bor}
+use Rattle.std.proofs.Common.{Some, None, ◌≡◌, ℕ, ◌+◌, ◌<◌, ◌≤◌, Bool, true, false, ltb, List, [], ◌∷◌, ◌++◌, length, get_or, take, drop, set, sym, refl, ap, ◌∙◌, subst, inl, inr, ⊎_elim, arith, Bor}
 use Rattle.std.proofs.lemmas.List.{drop-drop, length-drop, length-take-le, get_or-drop, take_more_set}
 use Rattle.std.proofs.lemmas.Bool.{cond-false, le-ltb, cases_lt}
 use Rattle.steps.specs.declared.names.Name.{Name}
@@ -9,11 +9,11 @@ use Rattle.steps.specs.Ranges.{IsName, name_byte}
 use Rattle.steps.proofs.Naming.{name_of_name}
 use Rattle.trails.specs.declared.endings.Cause.{Cause}
 use Rattle.trails.specs.declared.endings.Cause.TheVariants.{JobSize, OddByte, NinthByte, NameDue, CutLine}
-use Rattle.trails.specs.Told.{Told, faulty, ended, first}
+use Rattle.trails.specs.Told.{Told, over, faulty, ended, first}
 use Rattle.texts.specs.declared.tokens.Token.{Token}
 use Rattle.texts.specs.declared.tokens.Token.TheVariants as token
 use Rattle.texts.specs.declared.verdicts.Verdict.{Verdict}
-use Rattle.texts.specs.declared.verdicts.Verdict.TheVariants.{Take, Gap, Close, Stop}
+use Rattle.texts.specs.declared.verdicts.Verdict.TheVariants.{Take, Gap, Close, Over, Wrong}
 use Rattle.texts.specs.Tokens.{letter, space, line_end, odd, byte_of, run, Read}
 use Rattle.texts.specs.Verdicts.{Judged, Spelled, Faults, Takes}
 use Rattle.texts.specs.Scan.{stop, scan, from}
@@ -32,7 +32,8 @@ abbrev pub Outcome : List ℕ → ℕ → ℕ → ℕ → List Name → Verdict 
 Outcome text at i j names (Take n) = (length names < 1000) × (i < j) × Sofar text at j false (names ++ n ∷ [])
 Outcome text at i j names Gap = (i < j) × Sofar text at j true names
 Outcome text at i j names Close = from text at ≡ first names (from text j)
-Outcome text at i j names (Stop e) = from text at ≡ record { jobs = []; ending = e }
+Outcome text at i j names Over = from text at ≡ over None
+Outcome text at i j names (Wrong f) = from text at ≡ over (Some f)
 
 module _ (text : List ℕ) (at i j : ℕ) (names : List Name) where
   -- a verdict that stops at a fault
@@ -121,7 +122,8 @@ module _ (text : List ℕ) (at i j : ℕ) (names : List Name) where
       by (Take n) e room = taken k bytes read n e room s
       by Gap e room = absurd e
       by Close e room = absurd e
-      by (Stop x) e room = absurd e
+      by Over e room = absurd e
+      by (Wrong x) e room = absurd e
   step (token.Name k bytes) false v read few judged s = faulted v NinthByte k read.0 judged (ninth k bytes read s)
   step (token.Space k) true v read few judged s = faulted v NameDue k read.0 judged (space_due read.1 read.2 s)
   step (token.Space k) false v read few judged s = subst (Outcome text at i j names) (sym judged) (gapped read.1 read.2 read.3 s)

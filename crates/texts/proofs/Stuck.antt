@@ -7,7 +7,7 @@ use Rattle.steps.specs.Making.{name_of}
 use Rattle.steps.proofs.Naming.{name_of_text}
 use Rattle.trails.specs.declared.endings.Cause.{Cause}
 use Rattle.trails.specs.declared.endings.Cause.TheVariants.{OutOfTurn, JobSize, WordsRunOut, EndBits, OddByte, NinthByte, NameDue, CutLine}
-use Rattle.trails.specs.declared.endings.Ending.TheVariants.{End, Fault}
+use Rattle.std.specs.Prelude.{None as End, Some as Fault}
 use Rattle.trails.specs.declared.endings.TrailFault.{TrailFault}
 use Rattle.trails.proofs.Sizes.{sized_push, sized_more}
 use Rattle.texts.specs.Tokens.{byte_of}

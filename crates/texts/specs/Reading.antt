@@ -6,8 +6,8 @@ use Rattle.steps.specs.Ranges.{name_bytes}
 use Rattle.trails.specs.declared.endings.Cause.{Cause}
 use Rattle.trails.specs.declared.endings.Cause.TheVariants.{OutOfTurn, JobSize, WordsRunOut, EndBits, OddByte, NinthByte, NameDue, CutLine}
 use Rattle.trails.specs.declared.endings.TrailFault.{TrailFault}
-use Rattle.trails.specs.declared.endings.Ending.{Ending}
-use Rattle.trails.specs.declared.endings.Ending.TheVariants.{End, Fault}
+use Rattle.trails.specs.Jobs.{Ending}
+use Rattle.std.specs.Prelude.{None as End, Some as Fault}
 use Rattle.trails.specs.Jobs.{Sized, SizedTo}
 use Rattle.texts.specs.Tokens.{letter, space, line_end, odd, byte_of}
 use Rattle.texts.specs.Sizes.{Fits}

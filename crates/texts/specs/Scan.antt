@@ -1,11 +1,11 @@
 -- What a text says, byte by byte
-use Rattle.std.specs.Prelude.{◌≡◌, ℕ, ◌+◌, ◌≤◌, cond, List, [], ◌∷◌, ◌++◌, length, take, drop, Ok, Err, Result, nat_lt}
+use Rattle.std.specs.Prelude.{◌≡◌, ℕ, ◌+◌, ◌≤◌, cond, List, [], ◌∷◌, ◌++◌, length, take, drop, Some, None, Option, Ok, Err, Result, nat_lt}
 use Rattle.steps.specs.declared.names.Name.{Name}
 use Rattle.steps.specs.Making.{name_of}
 use Rattle.trails.specs.declared.endings.Cause.TheVariants.{JobSize, OddByte, NinthByte, NameDue, CutLine}
-use Rattle.trails.specs.declared.endings.Ending.{Ending}
-use Rattle.trails.specs.Told.{Told, faulty, ended, first}
-use Rattle.texts.specs.declared.verdicts.Line.{Line}
+use Rattle.trails.specs.declared.endings.TrailFault.{TrailFault}
+use Rattle.trails.specs.declared.jobs.Job.{Job}
+use Rattle.trails.specs.Told.{Told, over, faulty, ended, first}
 use Rattle.texts.specs.Tokens.{Byte, letter, space, line_end, odd, byte_of}
 
 -- The byte b at the offset i, where a line may have so many names at most, in a line of which those in `had` are whole names and the bytes in `tail` begin one more; k is what follows
@@ -33,6 +33,7 @@ abbrev pub from : List ℕ → ℕ → Told Name
 from text i = scan 1000 (drop i text) i [] []
 
 -- what reading one line at an offset answers, with v the work memory after it
-abbrev pub GivesLine : List ℕ → ℕ → List Name → Result Line Ending → Type 0
-GivesLine text i v (Ok l) = (l.after ≤ length text) × (l.len ≤ 1000) × (from text i ≡ first (take l.len v) (from text l.after))
-GivesLine text i v (Err e) = from text i ≡ record { jobs = []; ending = e }
+abbrev pub GivesLine : List ℕ → ℕ → List Name → Result (Option Job) TrailFault → Type 0
+GivesLine text i v (Ok (Some l)) = (l.after ≤ length text) × (l.len ≤ 1000) × (from text i ≡ first (take l.len v) (from text l.after))
+GivesLine text i v (Ok None) = from text i ≡ over None
+GivesLine text i v (Err f) = from text i ≡ over (Some f)

@@ -6,12 +6,12 @@ ghost use Rattle.texts.specs.Verdicts.{Faults, Judged, Spelled, Takes};
 use crate::tokens::Token;
 use crate::verdicts::Verdict;
 use steps::Name;
-use trails::{Cause, Ending, TrailFault};
+use trails::{Cause, TrailFault};
 
 fn fault(cause: Cause, place: usize) -> Verdict
     ensures { Faults result cause place }
 {
-    Verdict::Stop(Ending::Fault(TrailFault { cause, place }))
+    Verdict::Wrong(TrailFault { cause, place })
 }
 
 // A name token where a name is due.
@@ -22,10 +22,7 @@ fn take_name(at: usize, bytes: &[u8], len: usize) -> Verdict
     if len == 1000 {
         return fault(Cause::JobSize, at);
     }
-    match Name::new(bytes) {
-        Some(name) => Verdict::Take(name),
-        None => unreachable(),
-    }
+    Verdict::Take(Name::new(bytes).unwrap())
 }
 
 // The verdict on a token, with so many names in the line so far, and whether a name is due.
@@ -42,7 +39,7 @@ pub(crate) fn judge(token: Token<'_>, due: bool, len: usize) -> Verdict
         Token::LineEnd { at } if due => fault(Cause::NameDue, at),
         Token::LineEnd { .. } => Verdict::Close,
         Token::Odd { at } => fault(Cause::OddByte, at),
-        Token::End { .. } if due && len == 0 => Verdict::Stop(Ending::End),
+        Token::End { .. } if due && len == 0 => Verdict::Over,
         Token::End { at } => fault(Cause::CutLine, at),
     }
 }

@@ -13,20 +13,6 @@ pub struct Lexer<'a> {
     ghost ok: { at ≤ length text.now },
 }
 
-// How many name bytes stand at an offset, up to 8.
-fn run_len(text: &[u8], at: usize) -> usize
-    requires { at ≤ length text.now }
-    ensures run { result ≡ run 8 (drop at text.now) }
-    ensures within { at + result ≤ length text.now }
-    ensures none { result ≡ 0 → at < length text.now → name_byte (slice_index text.now at) ≡ false }
-{
-    let mut n = 0;
-    while n < 8 && at + n < text.len() && is_name_byte(text[at + n]) {
-        n += 1;
-    }
-    n
-}
-
 impl<'a> Lexer<'a> {
     // A lexer of a text from an offset on; an offset past the end is the end.
     pub fn new(text: &'a [u8], at: usize) -> Lexer<'a>
@@ -45,6 +31,19 @@ impl<'a> Lexer<'a> {
         self.at
     }
 
+    // How many name bytes stand next, up to 8.
+    fn run_len(&self) -> usize
+        ensures run { result ≡ run 8 (drop self.now.at self.now.text.now) }
+        ensures within { self.now.at + result ≤ length self.now.text.now }
+        ensures none { result ≡ 0 → self.now.at < length self.now.text.now → name_byte (slice_index self.now.text.now self.now.at) ≡ false }
+    {
+        self.text[self.at..]
+            .iter()
+            .take(8)
+            .take_while(|b| is_name_byte(**b))
+            .count()
+    }
+
     // The next part of the text; it stays where no part of a trail stands, and at the end.
     pub fn token(&mut self) -> Token<'a>
         ensures read { Read self.old.text.now self.old.at self.new.at result }
@@ -52,7 +51,7 @@ impl<'a> Lexer<'a> {
     {
         let at = self.at;
         let text = self.text;
-        let n = run_len(text, at);
+        let n = self.run_len();
         if n > 0 {
             self.at = at + n;
             return Token::Name {

@@ -6,12 +6,13 @@ ghost use Rattle.texts.specs.Sizes.{from_lawful};
 use crate::judging::judge;
 use crate::lexers::Lexer;
 use crate::trail::TextTrail;
-use crate::verdicts::{Line, Verdict};
+use crate::verdicts::Verdict;
 use steps::Name;
-use trails::{Ending, Trail, TrailStop};
+use trails::{Job, Trail, TrailFault, TrailStop};
 
-// Reads the line at an offset at the start of the work memory.
-fn read_line(text: &[u8], at: usize, work: &mut [Name]) -> Result<Line, Ending>
+// Reads the line at an offset at the start of the work memory; none is left at the end. The memory is lent, so that it has
+// room is a clause, which `next` tests.
+fn read_line(text: &[u8], at: usize, work: &mut [Name]) -> Result<Option<Job>, TrailFault>
     requires within { at ≤ length text.now }
     requires work { 1000 ≤ length work.old }
     ensures { GivesLine text.now at work.new result }
@@ -27,21 +28,14 @@ fn read_line(text: &[u8], at: usize, work: &mut [Name]) -> Result<Line, Ending>
                 due = false;
             }
             Verdict::Gap => due = true,
-            Verdict::Close => return Ok(Line {
+            Verdict::Close => return Ok(Some(Job {
                 len,
                 after: lexer.offset(),
-            }),
-            Verdict::Stop(ending) => return Err(ending),
+            })),
+            Verdict::Over => return Ok(None),
+            Verdict::Wrong(fault) => return Err(fault),
         }
     }
-}
-
-// The text itself, of which is known how it reads.
-fn understood(text: &[u8]) -> &[u8]
-    ensures same { result.now ≡ text.now }
-    ensures reading { Understood text.now (from text.now 0).jobs (from text.now 0).ending }
-{
-    text
 }
 
 impl<'a> TextTrail<'a> {
@@ -50,13 +44,11 @@ impl<'a> TextTrail<'a> {
         ensures made { (result.text.now ≡ text.now) × (result.at ≡ 0) }
         ensures reading { Understood text.now (from text.now 0).jobs (from text.now 0).ending }
     {
-        TextTrail {
-            text: understood(text),
-            at: 0,
-        }
+        TextTrail { text, at: 0 }
     }
 }
 
+// The lines of `next` are those of a word trail: one type over a trait of layouts would tell the contract of `Trail` twice.
 impl<'a> Trail for TextTrail<'a> {
     type Step = Name;
 
@@ -66,16 +58,14 @@ impl<'a> Trail for TextTrail<'a> {
 
     ghost lawful = { λ t. from_lawful t.text.now t.at t.ok.1 };
 
-    fn next(&mut self, work: &mut [Name]) -> Result<usize, TrailStop> {
+    fn next(&mut self, work: &mut [Name]) -> Result<Option<usize>, TrailStop> {
         if work.len() < 1000 {
             return Err(TrailStop::ShortWork);
         }
-        match read_line(self.text, self.at, work) {
-            Ok(line) => {
-                self.at = line.after;
-                Ok(line.len)
-            }
-            Err(ending) => Err(TrailStop::Ended(ending)),
-        }
+        let Some(line) = read_line(self.text, self.at, work)? else {
+            return Ok(None);
+        };
+        self.at = line.after;
+        Ok(Some(line.len))
     }
 }

@@ -1,5 +1,5 @@
 use steps::Name;
-use trails::Ending;
+use trails::TrailFault;
 
 // What a token means for the line that is read.
 #[derive(Clone, Copy)]
@@ -10,13 +10,8 @@ pub enum Verdict {
     Gap,
     // the line is whole
     Close,
-    // the trail goes no further
-    Stop(Ending),
-}
-
-// A line that was read: the number of its names, and the offset after it.
-#[derive(Clone, Copy)]
-pub struct Line {
-    pub len: usize,
-    pub after: usize,
+    // the trail has come to its end
+    Over,
+    // the trail stops at a fault
+    Wrong(TrailFault),
 }

@@ -8,13 +8,10 @@ mod tests {
     use std::test::Fail;
     use steps::Name;
     use texts::TextTrail;
-    use trails::{Cause, Ending, Eraser, Trail, TrailFault, TrailStop};
+    use trails::{Cause, Eraser, Trail, TrailFault, TrailStop};
 
     fn name(text: &[u8]) -> Result<Name, Fail> {
-        match Name::new(text) {
-            Some(made) => Ok(made),
-            None => Err(Fail::new("no name")),
-        }
+        Name::new(text).ok_or_else(|| Fail::new("no name"))
     }
 
     // Jobs of these lengths come, and then the ending, each time that the trail is asked.
@@ -23,20 +20,20 @@ mod tests {
         trail: &mut T,
         work: &mut [Name],
         lengths: &[usize],
-        ending: Ending,
+        ending: Result<Option<usize>, TrailStop>,
     ) {
         for n in lengths {
-            assert_eq!(rt; trail.next(work), Ok(*n));
+            assert_eq!(rt; trail.next(work), Ok(Some(*n)));
         }
-        assert_eq!(rt; trail.next(work), Err(TrailStop::Ended(ending)));
-        assert_eq!(rt; trail.next(work), Err(TrailStop::Ended(ending)));
+        assert_eq!(rt; trail.next(work), ending);
+        assert_eq!(rt; trail.next(work), ending);
     }
 
     fn goes<T: Trail<Step = Name>>(
         rt: &impl Abort,
         trail: &mut T,
         lengths: &[usize],
-        ending: Ending,
+        ending: Result<Option<usize>, TrailStop>,
     ) -> Result<(), Fail> {
         let mut work = [name(b"X")?; 1000];
         asked(rt, trail, &mut work, lengths, ending);
@@ -44,7 +41,7 @@ mod tests {
     }
 
     fn gives(rt: &impl Abort, text: &[u8], lengths: &[usize]) -> Result<(), Fail> {
-        goes(rt, &mut TextTrail::new(text), lengths, Ending::End)
+        goes(rt, &mut TextTrail::new(text), lengths, Ok(None))
     }
 
     fn breaks(
@@ -58,7 +55,7 @@ mod tests {
             rt,
             &mut TextTrail::new(text),
             lengths,
-            Ending::Fault(TrailFault { cause, place }),
+            Err(TrailStop::Fault(TrailFault { cause, place })),
         )
     }
 
@@ -111,8 +108,8 @@ mod tests {
     #[test]
     fn lines_of_1000_and_1001_names(rt: HostRuntime) -> Result<(), Fail> {
         let mut text = [b' '; 2002];
-        for i in 0..1001usize {
-            text[2 * i] = b'A';
+        for byte in text.iter_mut().step_by(2) {
+            *byte = b'A';
         }
         text[1999] = b'\n';
         gives(&rt, &text[0..2000], &[1000])?;
@@ -129,7 +126,7 @@ mod tests {
     fn a_job_stands_in_the_work_memory(rt: HostRuntime) -> Result<(), Fail> {
         let mut work = [name(b"X")?; 1000];
         let mut trail = TextTrail::new(b"LOAD READ0\n");
-        assert_eq!(rt; trail.next(&mut work), Ok(2));
+        assert_eq!(rt; trail.next(&mut work), Ok(Some(2)));
         assert_eq!(rt; work[0].text(), b"LOAD".as_slice());
         assert_eq!(rt; work[1].text(), b"READ0".as_slice());
         Ok(())
@@ -138,10 +135,10 @@ mod tests {
     #[test]
     fn erased_steps_and_emptied_jobs(rt: HostRuntime) -> Result<(), Fail> {
         let text = b"TICK LOAD TICK\nTICK TICK\nDONE\nTICK";
-        let cut = Ending::Fault(TrailFault {
+        let cut = Err(TrailStop::Fault(TrailFault {
             cause: Cause::CutLine,
             place: 34,
-        });
+        }));
         goes(
             &rt,
             &mut Eraser::new(TextTrail::new(text), name(b"TICK")?),
@@ -152,7 +149,7 @@ mod tests {
             &rt,
             &mut Eraser::new(TextTrail::new(b"TICK\n"), name(b"TICK")?),
             &[],
-            Ending::End,
+            Ok(None),
         )?;
         let twice = Eraser::new(
             Eraser::new(TextTrail::new(text), name(b"TICK")?),
@@ -168,9 +165,9 @@ mod tests {
         let mut work = [name(b"X")?; 1000];
         let mut trail = Eraser::new(TextTrail::new(b"TICK\nLOAD TICK\n"), name(b"TICK")?);
         assert_eq!(rt; trail.next(&mut short), Err(TrailStop::ShortWork));
-        assert_eq!(rt; trail.next(&mut work), Ok(1));
+        assert_eq!(rt; trail.next(&mut work), Ok(Some(1)));
         assert_eq!(rt; trail.next(&mut short), Err(TrailStop::ShortWork));
-        assert_eq!(rt; trail.next(&mut work), Err(TrailStop::Ended(Ending::End)));
+        assert_eq!(rt; trail.next(&mut work), Ok(None));
         Ok(())
     }
 }

@@ -1,12 +1,11 @@
 -- The five numbers of what a trail declines
-use Rattle.std.specs.Prelude.{ℕ, Some, None, Option}
+use Rattle.std.specs.Prelude.{ℕ}
 use Rattle.refusals.specs.declared.Refusal.{Refusal}
 use Rattle.trails.specs.declared.endings.Cause.{Cause}
 use Rattle.trails.specs.declared.endings.Cause.TheVariants.{OutOfTurn, JobSize, WordsRunOut, EndBits, OddByte, NinthByte, NameDue, CutLine}
 use Rattle.trails.specs.declared.endings.TrailFault.{TrailFault}
-use Rattle.trails.specs.declared.endings.Ending.TheVariants.{End, Fault}
 use Rattle.trails.specs.declared.endings.TrailStop.{TrailStop}
-use Rattle.trails.specs.declared.endings.TrailStop.TheVariants.{ShortWork, Ended}
+use Rattle.trails.specs.declared.endings.TrailStop.TheVariants.{ShortWork, Fault}
 
 abbrev pub cause_number : Cause → ℕ
 cause_number OutOfTurn = 1
@@ -21,7 +20,6 @@ cause_number CutLine = 8
 abbrev pub fault_refusal : TrailFault → Refusal
 fault_refusal f = record { row = 8; layer = 1; job = 0; place = f.place; cause = cause_number f.cause }
 
-abbrev pub stop_refusal : TrailStop → Option Refusal
-stop_refusal ShortWork = Some (record { row = 7; layer = 3; job = 0; place = 0; cause = 0 })
-stop_refusal (Ended End) = None
-stop_refusal (Ended (Fault f)) = Some (fault_refusal f)
+abbrev pub stop_refusal : TrailStop → Refusal
+stop_refusal ShortWork = record { row = 7; layer = 3; job = 0; place = 0; cause = 0 }
+stop_refusal (Fault f) = fault_refusal f

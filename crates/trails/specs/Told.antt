@@ -1,8 +1,7 @@
 -- What a reader makes of a trail that is written out: its jobs and its ending
-use Rattle.std.specs.Prelude.{ℕ, List, [], ◌∷◌, ◌++◌}
+use Rattle.std.specs.Prelude.{ℕ, List, [], ◌∷◌, ◌++◌, Some, None}
 use Rattle.trails.specs.declared.endings.Cause.{Cause}
-use Rattle.trails.specs.declared.endings.Ending.{Ending}
-use Rattle.trails.specs.declared.endings.Ending.TheVariants.{End, Fault}
+use Rattle.trails.specs.Jobs.{Ending}
 
 pub record Told (S : Type 0) : Type 0 where
   pub jobs : List (List S)
@@ -13,10 +12,10 @@ abbrev pub over : {S : Type 0} → Ending → Told S
 over e = record { jobs = []; ending = e }
 
 abbrev pub ended : {S : Type 0} → Told S
-ended = over End
+ended = over None
 
 abbrev pub faulty : {S : Type 0} → Cause → ℕ → Told S
-faulty cause place = over (Fault (record { cause = cause; place = place }))
+faulty cause place = over (Some (record { cause = cause; place = place }))
 
 -- a job ahead of what is told
 abbrev pub first : {S : Type 0} → List S → Told S → Told S

@@ -1,3 +1,6 @@
+ghost use Rattle.std.specs.Prelude.{◌≡◌};
+ghost use Rattle.trails.specs.declared.endings.TrailStop.TheVariants.{Fault as OfFault};
+
 // What is wrong at the place from which a trail cannot be read on.
 #[derive(Clone, Copy, PartialEq, Eq, Debug)]
 pub enum Cause {
@@ -26,17 +29,18 @@ pub struct TrailFault {
     pub place: usize,
 }
 
-// How a trail ends once its jobs are given.
-#[derive(Clone, Copy, PartialEq, Eq, Debug)]
-pub enum Ending {
-    End,
-    Fault(TrailFault),
-}
-
-// Why a trail gives no job when it is asked for one.
+// Why a trail that is asked for a job answers neither one nor that it has come to its end.
 #[derive(Clone, Copy, PartialEq, Eq, Debug)]
 pub enum TrailStop {
     // the work memory is under 1,000 steps
     ShortWork,
-    Ended(Ending),
+    Fault(TrailFault),
+}
+
+impl From<TrailFault> for TrailStop {
+    ghost from_gives = { λ f r. r ≡ OfFault f };
+
+    fn from(fault: TrailFault) -> TrailStop {
+        TrailStop::Fault(fault)
+    }
 }

@@ -4,9 +4,11 @@
 
 pub mod endings;
 pub mod erasers;
+pub mod jobs;
 pub mod refused;
 pub mod sources;
 
-pub use endings::{Cause, Ending, TrailFault, TrailStop};
+pub use endings::{Cause, TrailFault, TrailStop};
 pub use erasers::Eraser;
+pub use jobs::Job;
 pub use sources::Trail;

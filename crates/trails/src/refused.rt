@@ -1,15 +1,15 @@
 ghost use Rattle.std.specs.Prelude.{◌≡◌};
 ghost use Rattle.trails.specs.Faults.{cause_number, fault_refusal, stop_refusal};
 
-use crate::endings::{Cause, Ending, TrailFault, TrailStop};
+use crate::endings::{Cause, TrailFault, TrailStop};
 use refusals::Refusal;
 
-impl Cause {
-    // The number that a refusal has for the cause.
-    pub fn number(self) -> u8
-        ensures { result ≡ cause_number self }
-    {
-        match self {
+// The number that a refusal has for the cause.
+impl From<Cause> for u8 {
+    ghost from_gives = { λ c r. r ≡ cause_number c };
+
+    fn from(cause: Cause) -> u8 {
+        match cause {
             Cause::OutOfTurn => 1,
             Cause::JobSize => 2,
             Cause::WordsRunOut => 3,
@@ -22,36 +22,27 @@ impl Cause {
     }
 }
 
-impl TrailFault {
-    // The five numbers of the fault.
-    pub fn refusal(&self) -> Refusal
-        ensures { result ≡ fault_refusal self.now }
-    {
+// The five numbers of the fault.
+impl From<TrailFault> for Refusal {
+    ghost from_gives = { λ f r. r ≡ fault_refusal f };
+
+    fn from(fault: TrailFault) -> Refusal {
         Refusal {
-            row: 8,
-            layer: 1,
-            job: 0,
-            place: self.place,
-            cause: self.cause.number(),
+            place: fault.place,
+            cause: u8::from(fault.cause),
+            ..Refusal::new(8, 1)
         }
     }
 }
 
-impl TrailStop {
-    // The five numbers of the refusal; the end of a trail is none.
-    pub fn refusal(&self) -> Option<Refusal>
-        ensures { result ≡ stop_refusal self.now }
-    {
-        match *self {
-            TrailStop::ShortWork => Some(Refusal {
-                row: 7,
-                layer: 3,
-                job: 0,
-                place: 0,
-                cause: 0,
-            }),
-            TrailStop::Ended(Ending::End) => None,
-            TrailStop::Ended(Ending::Fault(fault)) => Some(fault.refusal()),
+// The five numbers of the refusal.
+impl From<TrailStop> for Refusal {
+    ghost from_gives = { λ s r. r ≡ stop_refusal s };
+
+    fn from(stop: TrailStop) -> Refusal {
+        match stop {
+            TrailStop::ShortWork => Refusal::new(7, 3),
+            TrailStop::Fault(fault) => Refusal::from(fault),
         }
     }
 }

@@ -1,6 +1,5 @@
-ghost use Rattle.std.specs.Prelude.{◌≡◌, List};
-ghost use Rattle.trails.specs.declared.endings.Ending.{Ending};
-ghost use Rattle.trails.specs.Jobs.{Lawful, Next};
+ghost use Rattle.std.specs.Prelude.{List};
+ghost use Rattle.trails.specs.Jobs.{Ending, Lawful, Next};
 
 use crate::endings::TrailStop;
 use steps::Step;
@@ -16,10 +15,11 @@ pub trait Trail {
     // How it ends after them.
     ghost ending: { Self → Ending };
 
+    // Puts the next job at the start of the work memory and answers its length, or none once it has come to its end, where
+    // it then stays.
+    fn next(&mut self, work: &mut [Self::Step]) -> Result<Option<usize>, TrailStop>
+        ensures { Next (jobs self.old) (ending self.old) (jobs self.new) (ending self.new) work.old work.new result };
+
     // Each job has 1 to 1,000 events, and there are fewer than 2^64 jobs.
     ghost lawful: { (t : Self) → Lawful (jobs t) };
-
-    // Puts the next job at the start of the work memory and answers its length, or tells the ending, which then stays.
-    fn next(&mut self, work: &mut [Self::Step]) -> Result<usize, TrailStop>
-        ensures { Next (jobs self.old) (ending self.old) (jobs self.new) (ending self.new) work.old work.new result };
 }

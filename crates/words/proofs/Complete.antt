@@ -6,8 +6,8 @@ use Rattle.std.proofs.lemmas.Bool.Decides.{nat_tests}
 use Rattle.steps.specs.declared.codes.Code.{Code}
 use Rattle.trails.specs.declared.endings.Cause.{Cause}
 use Rattle.trails.specs.declared.endings.Cause.TheVariants.{OutOfTurn, JobSize, WordsRunOut, EndBits, OddByte, NinthByte, NameDue, CutLine}
-use Rattle.trails.specs.declared.endings.Ending.{Ending}
-use Rattle.trails.specs.declared.endings.Ending.TheVariants.{End, Fault}
+use Rattle.trails.specs.Jobs.{Ending}
+use Rattle.std.specs.Prelude.{None as End, Some as Fault}
 use Rattle.words.specs.declared.kinds.Word.TheVariants.{Head, Stop}
 use Rattle.words.specs.declared.verdicts.Verdict.TheVariants.{Wrong}
 use Rattle.words.specs.Words.{word_of, end_word}
@@ -67,7 +67,7 @@ wrong_word ws i js NinthByte l h = absurd h
 wrong_word ws i js NameDue l h = absurd h
 wrong_word ws i js CutLine l h = absurd h
 
-run_out : (ws : List ℕ) (js : List (List Code)) → Whole js ws ⊎ Unfinished js ws → scan ws 0 0 [] ≡ telling js (ran_out (length ws))
+run_out : (ws : List ℕ) (js : List (List Code)) → Whole js ws ⊎ Unfinished js ws → scan ws 0 0 [] ≡ telling js (Fault (ran_out (length ws)))
 unfolding scan
 run_out ws js h =
     ap (λ x. scan x 0 0 []) (sym (append-nil ws))
@@ -82,7 +82,7 @@ pub told : (ws : List ℕ) (js : List (List Code)) (e : Ending) → Reading ws j
 told ws js End r = ap (λ x. scan x 0 0 []) r.2 ∙ scan_whole js r.0 (end_word ∷ r.1) r.3 ∙ at_end js r.1 (length r.0)
 told ws js (Fault f) r =
     ⊎_elim (λ h. wrong_word ws f.place js f.cause h.0 h.1)
-    (λ h. run_out ws js h.2 ∙ ap (λ x. telling js (ran_out x)) (sym h.0) ∙ ap (λ x. telling js (Fault (record { cause = x; place = f.place }))) (sym h.1)) r
+    (λ h. run_out ws js h.2 ∙ ap (λ x. telling js (Fault (ran_out x))) (sym h.0) ∙ ap (λ x. telling js (Fault (record { cause = x; place = f.place }))) (sym h.1)) r
 
 pub only : (ws : List ℕ) (js : List (List Code)) (e : Ending) → Reading ws js e → (js ≡ (from ws 0).jobs) × (e ≡ (from ws 0).ending)
 only ws js e r = (ap (λ t. t.jobs) (sym (told ws js e r)), ap (λ t. t.ending) (sym (told ws js e r)))

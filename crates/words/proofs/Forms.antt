@@ -1,5 +1,5 @@
 -- A word and its written form. Assumes nothing.
-use Rattle.std.proofs.Common.{◌≡◌, ℕ, ◌+◌, ◌/◌, ◌%◌, ◌^◌, ◌≤◌, sym, refl, ap, ◌∙◌, arith}
+use Rattle.std.proofs.Common.{◌≡◌, ℕ, ◌+◌, ◌/◌, ◌%◌, ◌^◌, ◌≤◌, sym, ap, ◌∙◌, arith}
 use Rattle.std.proofs.lemmas.Bool.Decides.{nat_tests}
 use Rattle.std.proofs.lemmas.Bool.{cond-true, cond-false, eq-eqb, ne_eqb}
 use Rattle.steps.specs.declared.codes.Code.{Code}
@@ -26,7 +26,7 @@ event_says c =
     let k : event_word c / 2 ^ 30 ≡ 0 = omega arith in
     let u : (code_of (event_word c)).unit ≡ c.unit = omega arith in
     let v : (code_of (event_word c)).code ≡ c.code = omega arith in
-    cond-true _ _ _ (eq-eqb _ 0 k) ∙ ap Event (same_code _ _ (cc))
+    cond-true _ _ _ (eq-eqb _ 0 k) ∙ ap Event (same_code _ _ u v)
 
 pub head_says : (n : ℕ) → n ≤ 1000 → word_of (head_word n) ≡ Head n
 head_says n h =
@@ -34,6 +34,3 @@ head_says n h =
     let r : head_word n % 2 ^ 30 ≡ n = omega arith in
     let some : head_word n / 2 ^ 30 ≡ 0 → ⊥ = λ z. omega arith in
     cond-false _ _ _ (ne_eqb _ 0 some) ∙ cond-true _ _ _ (eq-eqb _ 1 k) ∙ ap Head r
-
-pub end_says : word_of end_word ≡ Stop 0
-end_says = refl

@@ -6,7 +6,7 @@ use Rattle.std.proofs.lemmas.Bool.Decides.{nat_tests}
 use Rattle.steps.specs.declared.codes.Code.{Code}
 use Rattle.trails.specs.declared.endings.Cause.{Cause}
 use Rattle.trails.specs.declared.endings.Cause.TheVariants.{OutOfTurn, JobSize, EndBits}
-use Rattle.trails.specs.declared.endings.Ending.TheVariants.{End, Fault}
+use Rattle.std.specs.Prelude.{None as End, Some as Fault}
 use Rattle.trails.proofs.Sizes.{sized_push}
 use Rattle.words.specs.declared.kinds.Word.{Word}
 use Rattle.words.specs.declared.kinds.Word.TheVariants.{Event, Head, Stop, Filler}
@@ -26,7 +26,7 @@ State p js (suc due) had = Begun js (suc due + length had) had p
 abbrev Reads : List ℕ → List (List Code) → (Told Code) → Type 0
 Reads ws js t = Reading ws (js ++ t.jobs) t.ending
 
-reads_ran_out : (p : List ℕ) (js : List (List Code)) (due : ℕ) (had : List Code) → State p js due had → Reading p js (ran_out (length p))
+reads_ran_out : (p : List ℕ) (js : List (List Code)) (due : ℕ) (had : List Code) → State p js due had → Reading p js (Fault (ran_out (length p)))
 reads_ran_out p js zero had s = inr (refl, refl, inl s.1)
 reads_ran_out p js (suc due) had s = inr (refl, refl, inr (suc due + length had, had, s))
 
@@ -109,7 +109,7 @@ module _ (p : List ℕ) (w : ℕ) (js : List (List Code)) where
 sound : (ws p : List ℕ) (js : List (List Code)) (i due : ℕ) (had : List Code) → i ≡ length p → State p js due had → Reads (p ++ ws) js (scan ws i due had)
 unfolding scan
 sound [] p js i due had e s =
-    subst₂ (λ x y. Reading x y (ran_out i)) (sym (append-nil p)) (sym (append-nil js)) (subst (λ n. Reading p js (ran_out n)) (sym e) (reads_ran_out p js due had s))
+    subst₂ (λ x y. Reading x y (Fault (ran_out i))) (sym (append-nil p)) (sym (append-nil js)) (subst (λ n. Reading p js (Fault (ran_out n))) (sym e) (reads_ran_out p js due had s))
 sound (w ∷ ws) p js i due had e s =
     step p w js ws i e
     (λ ks d h t. subst (λ x. Reads x ks (scan ws (i + 1) d h)) (append_assoc p (w ∷ []) ws) (sound ws (p ++ w ∷ []) ks (i + 1) d h (omega (arith, length_push p w)) t))

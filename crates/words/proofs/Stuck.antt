@@ -5,7 +5,7 @@ use Rattle.steps.specs.declared.codes.Code.{Code}
 use Rattle.trails.specs.declared.endings.Cause.{Cause}
 use Rattle.trails.specs.declared.endings.Cause.TheVariants.{OutOfTurn, JobSize, WordsRunOut, EndBits, OddByte, NinthByte, NameDue, CutLine}
 use Rattle.trails.specs.declared.endings.TrailFault.{TrailFault}
-use Rattle.trails.specs.declared.endings.Ending.TheVariants.{End, Fault}
+use Rattle.std.specs.Prelude.{None as End, Some as Fault}
 use Rattle.trails.proofs.Sizes.{sized_push}
 use Rattle.words.specs.Words.{code_of, event_word, head_word, end_word, written, stripped}
 use Rattle.words.specs.Scan.{from}

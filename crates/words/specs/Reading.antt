@@ -5,8 +5,8 @@ use Rattle.steps.specs.declared.codes.Code.{Code}
 use Rattle.trails.specs.declared.endings.Cause.{Cause}
 use Rattle.trails.specs.declared.endings.Cause.TheVariants.{OutOfTurn, JobSize, WordsRunOut, EndBits, OddByte, NinthByte, NameDue, CutLine}
 use Rattle.trails.specs.declared.endings.TrailFault.{TrailFault}
-use Rattle.trails.specs.declared.endings.Ending.{Ending}
-use Rattle.trails.specs.declared.endings.Ending.TheVariants.{End, Fault}
+use Rattle.trails.specs.Jobs.{Ending}
+use Rattle.std.specs.Prelude.{None as End, Some as Fault}
 use Rattle.trails.specs.Jobs.{Sized}
 use Rattle.words.specs.declared.kinds.Word.TheVariants.{Event, Head, Stop}
 use Rattle.words.specs.Words.{word_of, event_word, head_word, end_word, written, stripped}

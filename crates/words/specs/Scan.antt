@@ -1,13 +1,13 @@
 -- What words say, one after the other
-use Rattle.std.specs.Prelude.{◌≡◌, ℕ, zero, suc, ◌+◌, ◌-◌, ◌≤◌, cond, ◌&&◌, List, [], ◌∷◌, ◌++◌, length, take, drop, Ok, Err, Result, ◌==◌, nat_le}
+use Rattle.std.specs.Prelude.{◌≡◌, ℕ, zero, suc, ◌+◌, ◌-◌, ◌≤◌, cond, ◌&&◌, List, [], ◌∷◌, ◌++◌, length, take, drop, Some, None, Option, Ok, Err, Result, ◌==◌, nat_le}
 use Rattle.steps.specs.declared.codes.Code.{Code}
 use Rattle.trails.specs.declared.endings.Cause.TheVariants.{OutOfTurn, JobSize, WordsRunOut, EndBits}
-use Rattle.trails.specs.declared.endings.Ending.{Ending}
-use Rattle.trails.specs.declared.endings.Ending.TheVariants.{End, Fault}
+use Rattle.trails.specs.declared.endings.TrailFault.{TrailFault}
+use Rattle.std.specs.Prelude.{None as End, Some as Fault}
 use Rattle.trails.specs.Told.{Told, over, first}
 use Rattle.words.specs.declared.kinds.Word.{Word}
 use Rattle.words.specs.declared.kinds.Word.TheVariants.{Event, Head, Stop, Filler}
-use Rattle.words.specs.declared.jobs.Job.{Job}
+use Rattle.trails.specs.declared.jobs.Job.{Job}
 use Rattle.words.specs.declared.verdicts.Verdict.{Verdict}
 use Rattle.words.specs.declared.verdicts.Verdict.TheVariants.{Skip, Open, Take, Last, Close, Wrong}
 use Rattle.words.specs.Words.{word_of}
@@ -24,8 +24,8 @@ judge_of (Event c) (suc zero) = Last c
 judge_of (Event c) (suc (suc due)) = Take c
 
 -- how a trail ends whose words run out, after so many
-abbrev pub ran_out : ℕ → Ending
-ran_out n = Fault (record { cause = WordsRunOut; place = n })
+abbrev pub ran_out : ℕ → TrailFault
+ran_out n = record { cause = WordsRunOut; place = n }
 
 -- what a verdict makes of the word at a place, with so many events due and those had so far; k is what follows
 abbrev pub turn : Verdict → ℕ → ℕ → List Code → (ℕ → List Code → Told Code) → Told Code
@@ -38,7 +38,7 @@ turn (Wrong cause) i due had k = over (Fault (record { cause = cause; place = i 
 
 -- what the words say from a place on
 unfoldable pub scan : List ℕ → ℕ → ℕ → List Code → Told Code
-scan [] i due had = over (ran_out i)
+scan [] i due had = over (Fault (ran_out i))
 scan (w ∷ ws) i due had = turn (judge_of (word_of w) due) i due had (scan ws (i + 1))
 
 -- what the words say from a place between two jobs on
@@ -46,6 +46,7 @@ abbrev pub from : List ℕ → ℕ → Told Code
 from ws i = scan (drop i ws) i 0 []
 
 -- what reading one job at a place answers, with v the work memory after
-abbrev pub GivesJob : List ℕ → ℕ → List Code → Result Job Ending → Type 0
-GivesJob ws i v (Ok j) = (j.after ≤ length ws) × (j.len ≤ 1000) × (from ws i ≡ first (take j.len v) (from ws j.after))
-GivesJob ws i v (Err e) = from ws i ≡ over e
+abbrev pub GivesJob : List ℕ → ℕ → List Code → Result (Option Job) TrailFault → Type 0
+GivesJob ws i v (Ok (Some j)) = (j.after ≤ length ws) × (j.len ≤ 1000) × (from ws i ≡ first (take j.len v) (from ws j.after))
+GivesJob ws i v (Ok None) = from ws i ≡ over End
+GivesJob ws i v (Err f) = from ws i ≡ over (Fault f)

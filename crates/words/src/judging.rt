@@ -3,7 +3,7 @@ ghost use Rattle.words.specs.Scan.{judge_of, ran_out};
 
 use crate::kinds::Word;
 use crate::verdicts::Verdict;
-use trails::{Cause, Ending, TrailFault};
+use trails::{Cause, TrailFault};
 
 // The verdict on a word where so many events are due; none are due between two jobs.
 pub(crate) fn judge(word: Word, due: usize) -> Verdict
@@ -42,11 +42,11 @@ pub(crate) fn judge(word: Word, due: usize) -> Verdict
 }
 
 // How a trail ends whose words run out, after so many.
-pub(crate) fn run_out(len: usize) -> Ending
+pub(crate) fn run_out(len: usize) -> TrailFault
     ensures { result ≡ ran_out len }
 {
-    Ending::Fault(TrailFault {
+    TrailFault {
         cause: Cause::WordsRunOut,
         place: len,
-    })
+    }
 }

@@ -1,7 +1,6 @@
 // The word trail: jobs of codes in 32-bit words, as early cards write them.
 #![tactic(auto)]
 
-mod jobs;
 mod judging;
 mod kinds;
 pub mod reader;

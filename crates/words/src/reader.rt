@@ -3,24 +3,24 @@ ghost use Rattle.words.specs.Reading.{Understood};
 ghost use Rattle.words.specs.Scan.{from, GivesJob};
 ghost use Rattle.words.specs.Sizes.{from_lawful};
 
-use crate::jobs::Job;
 use crate::judging::{judge, run_out};
-use crate::split::word_of;
+use crate::kinds::Word;
 use crate::trail::WordTrail;
 use crate::verdicts::Verdict;
 use steps::Code;
-use trails::{Ending, Trail, TrailFault, TrailStop};
+use trails::{Job, Trail, TrailFault, TrailStop};
 
-// Reads the next job, which starts at a place, into the work memory.
-fn read_job(words: &[u32], at: usize, work: &mut [Code]) -> Result<Job, Ending>
+// Reads the next job, which starts at a place, into the work memory; none is left at the end word. The memory is lent, so
+// that it has room is a clause, which `next` tests.
+fn read_job(words: &[u32], at: usize, work: &mut [Code]) -> Result<Option<Job>, TrailFault>
     requires within { at ≤ length words.now }
     requires work { 1000 ≤ length work.old }
     ensures { GivesJob words.now at work.new result }
 {
     let mut due: usize = 0;
     let mut had: usize = 0;
-    for i in at..words.len() {
-        match judge(word_of(words[i]), due) {
+    for (i, word) in words[at..].iter().enumerate() {
+        match judge(Word::from(*word), due) {
             Verdict::Skip => {}
             Verdict::Open(n) => {
                 due = n;
@@ -32,28 +32,23 @@ fn read_job(words: &[u32], at: usize, work: &mut [Code]) -> Result<Job, Ending>
             }
             Verdict::Last(code) => {
                 work[had] = code;
-                return Ok(Job {
+                return Ok(Some(Job {
                     len: had + 1,
-                    after: i + 1,
-                });
+                    after: at + i + 1,
+                }));
             }
             Verdict::Close => {
-                return Err(Ending::End);
+                return Ok(None);
             }
             Verdict::Wrong(cause) => {
-                return Err(Ending::Fault(TrailFault { cause, place: i }));
+                return Err(TrailFault {
+                    cause,
+                    place: at + i,
+                });
             }
         }
     }
     Err(run_out(words.len()))
-}
-
-// The words themselves, of which is known how they read.
-fn understood(words: &[u32]) -> &[u32]
-    ensures same { result.now ≡ words.now }
-    ensures reading { Understood words.now (from words.now 0).jobs (from words.now 0).ending }
-{
-    words
 }
 
 impl<'a> WordTrail<'a> {
@@ -62,13 +57,11 @@ impl<'a> WordTrail<'a> {
         ensures made { (result.words.now ≡ words.now) × (result.at ≡ 0) }
         ensures reading { Understood words.now (from words.now 0).jobs (from words.now 0).ending }
     {
-        WordTrail {
-            words: understood(words),
-            at: 0,
-        }
+        WordTrail { words, at: 0 }
     }
 }
 
+// The lines of `next` are those of a text trail: one type over a trait of layouts would tell the contract of `Trail` twice.
 impl<'a> Trail for WordTrail<'a> {
     type Step = Code;
 
@@ -78,16 +71,14 @@ impl<'a> Trail for WordTrail<'a> {
 
     ghost ending = { λ t. (from t.words.now t.at).ending };
 
-    fn next(&mut self, work: &mut [Code]) -> Result<usize, TrailStop> {
+    fn next(&mut self, work: &mut [Code]) -> Result<Option<usize>, TrailStop> {
         if work.len() < 1000 {
             return Err(TrailStop::ShortWork);
         }
-        match read_job(self.words, self.at, work) {
-            Ok(job) => {
-                self.at = job.after;
-                Ok(job.len)
-            }
-            Err(ending) => Err(TrailStop::Ended(ending)),
-        }
+        let Some(job) = read_job(self.words, self.at, work)? else {
+            return Ok(None);
+        };
+        self.at = job.after;
+        Ok(Some(job.len))
     }
 }

@@ -7,7 +7,7 @@ mod tests {
     use std::process::Abort;
     use std::test::Fail;
     use steps::Code;
-    use trails::{Cause, Ending, Trail, TrailFault, TrailStop};
+    use trails::{Cause, Trail, TrailFault, TrailStop};
     use words::WordTrail;
 
     const HEAD: u32 = 0x4000_0000;
@@ -17,23 +17,31 @@ mod tests {
     const FILLER: u32 = 0xc000_0000;
 
     fn blank() -> Result<Code, Fail> {
-        match Code::new(0, 0) {
-            Some(code) => Ok(code),
-            None => Err(Fail::new("no code")),
-        }
+        Code::new(0, 0).ok_or_else(|| Fail::new("no code"))
     }
 
     // So many jobs come, and then the ending, each time that the trail is asked.
-    fn goes(rt: &impl Abort, words: &[u32], work: &mut [Code], jobs: usize, ending: Ending) {
+    fn goes(
+        rt: &impl Abort,
+        words: &[u32],
+        work: &mut [Code],
+        jobs: usize,
+        ending: Result<Option<usize>, TrailStop>,
+    ) {
         let mut trail = WordTrail::new(words);
         for _ in 0..jobs {
-            assert!(rt; trail.next(work).is_ok());
+            assert!(rt; matches!(trail.next(work), Ok(Some(_))));
         }
-        assert_eq!(rt; trail.next(work), Err(TrailStop::Ended(ending)));
-        assert_eq!(rt; trail.next(work), Err(TrailStop::Ended(ending)));
+        assert_eq!(rt; trail.next(work), ending);
+        assert_eq!(rt; trail.next(work), ending);
     }
 
-    fn gives(rt: &impl Abort, words: &[u32], jobs: usize, ending: Ending) -> Result<(), Fail> {
+    fn gives(
+        rt: &impl Abort,
+        words: &[u32],
+        jobs: usize,
+        ending: Result<Option<usize>, TrailStop>,
+    ) -> Result<(), Fail> {
         let mut work = [blank()?; 1000];
         goes(rt, words, &mut work, jobs, ending);
         Ok(())
@@ -46,7 +54,12 @@ mod tests {
         cause: Cause,
         place: usize,
     ) -> Result<(), Fail> {
-        gives(rt, words, jobs, Ending::Fault(TrailFault { cause, place }))
+        gives(
+            rt,
+            words,
+            jobs,
+            Err(TrailStop::Fault(TrailFault { cause, place })),
+        )
     }
 
     #[test]
@@ -89,13 +102,13 @@ mod tests {
 
     #[test]
     fn nothing_after_the_end_is_read(rt: HostRuntime) -> Result<(), Fail> {
-        gives(&rt, &[END], 0, Ending::End)?;
-        gives(&rt, &[END, 7, HEAD, END + 1], 0, Ending::End)?;
+        gives(&rt, &[END], 0, Ok(None))?;
+        gives(&rt, &[END, 7, HEAD, END + 1], 0, Ok(None))?;
         gives(
             &rt,
             &[HEAD + 1, 7, HEAD + 1, 8, END, HEAD + 1, 9],
             2,
-            Ending::End,
+            Ok(None),
         )
     }
 
@@ -113,12 +126,12 @@ mod tests {
             END,
         ];
         let mut trail = WordTrail::new(&words);
-        assert_eq!(rt; trail.next(&mut work), Ok(2));
+        assert_eq!(rt; trail.next(&mut work), Ok(Some(2)));
         assert_eq!(rt; work[0].unit(), 63);
         assert_eq!(rt; work[0].code(), 16_777_215);
         assert_eq!(rt; work[1].unit(), 1);
         assert_eq!(rt; work[1].code(), 2);
-        assert_eq!(rt; trail.next(&mut work), Err(TrailStop::Ended(Ending::End)));
+        assert_eq!(rt; trail.next(&mut work), Ok(None));
         Ok(())
     }
 
@@ -130,10 +143,10 @@ mod tests {
         words[2] = HEAD + 1000;
         words[1003] = END;
         let mut trail = WordTrail::new(&words);
-        assert_eq!(rt; trail.next(&mut work), Ok(1));
-        assert_eq!(rt; trail.next(&mut work), Ok(1000));
+        assert_eq!(rt; trail.next(&mut work), Ok(Some(1)));
+        assert_eq!(rt; trail.next(&mut work), Ok(Some(1000)));
         assert_eq!(rt; work[999].code(), 7);
-        assert_eq!(rt; trail.next(&mut work), Err(TrailStop::Ended(Ending::End)));
+        assert_eq!(rt; trail.next(&mut work), Ok(None));
         words[1002] = END;
         breaks(&rt, &words, 1, Cause::OutOfTurn, 1002)
     }
@@ -144,9 +157,9 @@ mod tests {
         let mut work = [blank()?; 1000];
         let mut trail = WordTrail::new(&[HEAD + 1, 7, END]);
         assert_eq!(rt; trail.next(&mut short), Err(TrailStop::ShortWork));
-        assert_eq!(rt; trail.next(&mut work), Ok(1));
+        assert_eq!(rt; trail.next(&mut work), Ok(Some(1)));
         assert_eq!(rt; trail.next(&mut short), Err(TrailStop::ShortWork));
-        assert_eq!(rt; trail.next(&mut work), Err(TrailStop::Ended(Ending::End)));
+        assert_eq!(rt; trail.next(&mut work), Ok(None));
         Ok(())
     }
 }

@@ -2,8 +2,10 @@
 #![tactic(auto)]
 
 ghost use Rattle.std.specs.Prelude.{◌/◌, ◌<◌, ◌≤◌, not, ◌&&◌, ◌||◌, ◌==◌, nat_le, nat_lt};
+ghost use Rattle.std.proofs.Common.{ap₂};
+ghost use Rattle.std.proofs.Math.Bool.{and_comm, or_comm};
 ghost use Rattle.std.proofs.lemmas.Bool.{and_parts, ltb-true};
-ghost use Rattle.worst.specs.Laws.{either_way, same_either_way};
+ghost use Rattle.std.proofs.lemmas.Cmp.{nat_eq_equiv};
 
 use groups::{Bond, ListFault, list_groups};
 use std::io;
@@ -36,13 +38,15 @@ impl Blocks {
 impl Bond for Blocks {
     ghost points = { λ s. s.size };
 
-    ghost pairs = { λ s p q. nat_lt p s.size && (nat_lt q s.size && (p == q || (nat_le s.blocked p || (nat_le s.blocked q || not (p / s.block == q / s.block))))) };
+    ghost pairs = { λ s p q. (nat_lt p s.size && nat_lt q s.size) && ((p == q || (nat_le s.blocked p || nat_le s.blocked q)) || not (p / s.block == q / s.block)) };
 
     ghost few = { λ s. s.few };
 
-    ghost symmetric = { λ s p q. either_way (nat_lt p s.size) (nat_lt q s.size) (p == q) (q == p) (nat_le s.blocked p) (nat_le s.blocked q) (p / s.block == q / s.block) (q / s.block == p / s.block) (same_either_way p q) (same_either_way (p / s.block) (q / s.block)) };
+    ghost symmetric = { λ s p q. ap₂ (λ x y. x && y) (and_comm (nat_lt p s.size) (nat_lt q s.size))
+        (ap₂ (λ x y. x || not y) (ap₂ (λ x y. x || y) (nat_eq_equiv.symm p q) (or_comm (nat_le s.blocked p) (nat_le s.blocked q)))
+        (nat_eq_equiv.symm (p / s.block) (q / s.block))) };
 
-    ghost lacks = { λ s p q h. ltb-true p s.size (and_parts _ _ h).0 };
+    ghost lacks = { λ s p q h. ltb-true p s.size (and_parts _ _ (and_parts _ _ h).0).0 };
 
     fn size(&mut self) -> usize {
         self.size
@@ -50,10 +54,10 @@ impl Bond for Blocks {
 
     fn pair(&mut self, p: usize, q: usize) -> bool {
         p < self.size
-            && (q < self.size
-                && (p == q
-                    || (self.blocked <= p
-                        || (self.blocked <= q || p / self.block != q / self.block))))
+            && q < self.size
+            && (p == q
+                || (self.blocked <= p || self.blocked <= q)
+                || p / self.block != q / self.block)
     }
 }
 

@@ -1,10 +1,10 @@
-use Rattle.std.proofs.Common.{◌≡◌, ℕ, ◌<◌, length, get_or, take}
+use Rattle.std.proofs.Common.{◌≡◌, length, take}
 use Rattle.steps.specs.Rosters.{ListedBelow, numbers}
+use Rattle.book.specs.Jobs.{OfSteps}
 use Rattle.book.proofs.entering.number_events.Given as goal
 
-abbrev pub invariant-loop-k : goal.invariant-loop-k
-invariant-loop-k g l =
-    (length l.out ≡ length l.initial.out)
-    × (take l.k l.out ≡ numbers g.T.Step.order l.roster.entries.now (take l.k l.job))
-    × ListedBelow l.roster.entries.now l.job l.k
-    × ((i : ℕ) → i < l.k → get_or l.out i 0 < length l.roster.entries.now)
+abbrev pub invariant-loop-place : goal.invariant-loop-place
+invariant-loop-place g l =
+    (l.numbers.items ≡ numbers g.T.Ord.cmp l.roster.entries.now (take l.place l.job))
+    × ListedBelow l.roster.entries.now l.job l.place
+    × OfSteps (length l.roster.entries.now) l.numbers.items

@@ -1,15 +1,14 @@
-use Rattle.std.proofs.Common.{◌≡◌, ◌<◌, ◌≤◌, [], length, get_or, take, arith, below_more}
+use Rattle.std.proofs.Common.{◌≡◌, ◌<◌, ◌≤◌, [], length, get_or, take, sym, ◌∙◌, arith, below_more}
 use Rattle.std.proofs.lemmas.List.{length-take-le}
 use Rattle.book.specs.Jobs.{held}
-use Rattle.book.proofs.Lay.{ended, t_more, t_head, t_room, t_next, t_same, t_other, t_longer}
+use Rattle.book.proofs.Lay.{ended, t_more, t_head, t_room, t_next, t_job}
 use Rattle.book.proofs.finding.find.Goals as goal
-use Rattle.book.proofs.finding.find.Goals.{else-len-job-via-then-len-job+else-same, else-len-job-via-else-len-job}
 
 pub overflow_sub-len : goal.overflow_sub-len
 overflow_sub-len c = omega (arith, t_head c.args.words.now c.args.used c.loop-at.at c.loop-at.n c.requires.within c.loop-at.invariant.0 c.loop-at-test.true)
 
-pub same-requires : goal.same-requires
-same-requires c = omega (
+pub slice_bounds-same-end : goal.slice_bounds-same-end
+slice_bounds-same-end c = omega (
   arith,
   t_head c.args.words.now c.args.used c.loop-at.at c.loop-at.n c.requires.within c.loop-at.invariant.0 c.loop-at-test.true,
   t_room c.args.words.now c.args.used c.loop-at.at c.loop-at.n c.requires.within c.loop-at.invariant.0 c.loop-at-test.true,
@@ -18,7 +17,7 @@ same-requires c = omega (
 pub returns-then-same : goal.returns-then-same
 returns-then-same c = (
   t_more c.args.words.now c.args.used c.loop-at.at c.loop-at.n c.requires.within c.loop-at.invariant.0 c.loop-at-test.true,
-  t_same c.args.words.now c.args.used c.loop-at.at c.loop-at.n c.requires.within c.loop-at.invariant.0 c.loop-at-test.true c.args.job.now c.if-len-job.true c.if-same.ensures,
+  sym (t_job c.args.words.now c.args.used c.loop-at.at c.loop-at.n c.requires.within c.loop-at.invariant.0 c.loop-at-test.true) ∙ c.if-same.ensures,
 )
 
 pub loop-at-preserved : goal.loop-at-preserved
@@ -27,11 +26,7 @@ loop-at-preserved c =
       t_next c.args.words.now c.args.used c.loop-at.at c.loop-at.n c.requires.within c.loop-at.invariant.0 c.loop-at-test.true,
       omega (arith, c.loop-at.invariant.1),
       omega arith,
-      below_more (λ i. get_or (held c.args.used c.args.words.now) i [] ≡ c.args.job.now → ⊥) c.loop-at.n c.loop-at.invariant.3
-          (elim c.else-len-job.branch [
-            | else-len-job-via-then-len-job+else-same w ↦ t_other c.args.words.now c.args.used c.loop-at.at c.loop-at.n c.requires.within c.loop-at.invariant.0 c.loop-at-test.true c.args.job.now w.if-same.ensures
-            | else-len-job-via-else-len-job w ↦ t_longer c.args.words.now c.args.used c.loop-at.at c.loop-at.n c.requires.within c.loop-at.invariant.0 c.loop-at-test.true c.args.job.now w.if-len-job.false
-          ]),
+      below_more (λ i. get_or (held c.args.used c.args.words.now) i [] ≡ c.args.job.now → ⊥) c.loop-at.n c.loop-at.invariant.3 (λ e. c.if-same.ensures (t_job c.args.words.now c.args.used c.loop-at.at c.loop-at.n c.requires.within c.loop-at.invariant.0 c.loop-at-test.true ∙ e)),
     )
 
 pub returns : goal.returns

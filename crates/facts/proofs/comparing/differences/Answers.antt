@@ -4,7 +4,7 @@ use Rattle.facts.proofs.comparing.differences.Goals as goal
 
 pub returns : goal.returns
 returns c =
-    let each = differs _ _ _ _ c.of.ensures.shows c.of-2.ensures.shows _ c.compare_rows.ensures in
+    let each = differs _ _ _ _ c.of.ensures.shows c.of-2.ensures.shows _ c.differences.ensures in
     let agree = agrees _ _ _ each in
     record {
       each = each;

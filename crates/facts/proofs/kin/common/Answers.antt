@@ -1,5 +1,6 @@
-use Rattle.std.proofs.Common.{sym, ◌∙◌, true≢false, below_more}
+use Rattle.std.proofs.Common.{rules}
+use Rattle.facts.proofs.Asking.{any_has}
 use Rattle.facts.proofs.kin.common.Goals as goal
 
-pub loop-c-preserved : goal.loop-c-preserved
-loop-c-preserved c = below_more _ c.loop-c.c c.loop-c.invariant (λ h. true≢false (sym (c.in_common.ensures.1 h) ∙ c.if-in_common.false))
+pub returns : goal.returns
+returns c = any_has _ _ _ _ c.any.ensures.ran (λ x q k. search rules) (λ x q k. search rules)

@@ -6,8 +6,9 @@ use Rattle.facts.proofs.sets.sets_differ.Goals as goal
 
 pub returns : goal.returns
 returns c =
-    let a = c.args.a in
-    let b = c.args.b in (
+    let a = c.from.result in
+    let b = c.from-2.result in
+    rw (← c.from.ensures, ← c.from-2.ensures) (
       λ e s l. ap (λ x. bit x s) (eqb-true a b (not-false (eqb a b) e)),
-      λ same. ap not (eq-eqb a b (same_low 32 a b c.ranges.a.fits c.ranges.b.fits same)),
+      λ same. ap not (eq-eqb a b (same_low 32 a b c.from.type_inv c.from-2.type_inv same)),
     )

@@ -1,10 +1,25 @@
-use Rattle.std.proofs.Common.{[], get_or, sym, ◌∙◌, subst}
+use Rattle.std.proofs.Common.{rules, [], get_or, sym, ◌∙◌, subst}
 use Rattle.std.proofs.lemmas.List.{take_all}
 use Rattle.std.proofs.lemmas.List.Sums.{fold_more}
 use Rattle.flow.specs.Reading.{Tallies, whole}
+use Rattle.flow.proofs.Marks.{no_steps, no_rows}
 use Rattle.flow.proofs.Tallying.{tallies_end}
 use Rattle.flow.proofs.Whole.{tallies_whole, tallies_word, word_in}
 use Rattle.flow.proofs.reading.tally_jobs.Goals as goal
+
+pub loop-word-init : goal.loop-word-init
+loop-word-init c =
+    let t = c.default-tally.result in
+    record {
+      seen_is = no_steps t.seen (search rules);
+      looping_is = no_steps t.looping (search rules);
+      first_is = no_steps t.first (search rules);
+      last_is = no_steps t.last (search rules);
+      followed_is = λ a b. no_rows t.followed (search rules) (λ a l. search rules) b a;
+      returns_is = no_rows t.returns (search rules) (λ a l. search rules);
+      latest_is = no_steps t.latest (search rules);
+      earlier_is = no_steps t.earlier (search rules);
+    }
 
 pub loop-word-preserved : goal.loop-word-preserved
 loop-word-preserved c =

@@ -1,9 +1,9 @@
-use Rattle.std.proofs.Common.{length, sym, ap, ◌∙◌, subst, arith}
+use Rattle.std.proofs.Common.{ℕ, ◌<◌, length, get_or, sym, ap, ◌∙◌, subst, arith}
 use Rattle.std.proofs.lemmas.Result.{err_from_is_err_and}
 use Rattle.book.specs.View.{held_by, memory_of}
 use Rattle.listing.specs.Listed.{Lists}
-use Rattle.listing.specs.Pieces.{paged}
-use Rattle.listing.proofs.Listed.{declined, few_words, lists}
+use Rattle.listing.specs.Pieces.{Tagged, paged}
+use Rattle.listing.proofs.Listed.{declined, drawn_tagged, few_words, lists}
 use Rattle.listing.proofs.listing.draw_words.Goals as goal
 
 pub returns-in_err-count : goal.returns-in_err-count
@@ -21,5 +21,9 @@ pub returns : goal.returns
 returns c =
     let js = held_by c.args.book.now in
     let (ws, d, count, front, rest, long) = c.in_ok-count.ensures.drew.1 in
-    let same = sym (c.split_at.ensures.front ∙ front) in
-    (c.in_ok-count.ensures.drew.0, omega (arith, few_words js ws d, ap length same), λ roster. subst (λ vs. Lists js roster (paged roster vs)) same (lists js ws d roster))
+    let same = sym (c.split_at.ensures.front ∙ front) in (
+      c.in_ok-count.ensures.drew.0,
+      omega (arith, few_words js ws d, ap length same),
+      subst (λ vs. (k : ℕ) → k < length vs → Tagged (get_or vs k 0)) same (drawn_tagged js ws d),
+      λ roster. subst (λ vs. Lists js roster (paged roster vs)) same (lists js ws d roster),
+    )

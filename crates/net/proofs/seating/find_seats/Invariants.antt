@@ -1,6 +1,5 @@
-use Rattle.std.proofs.Common.{◌≡◌, length}
-use Rattle.net.specs.Seating.{SeatsBelow}
+use Rattle.net.proofs.Seated.{Seating}
 use Rattle.net.proofs.seating.find_seats.Given as goal
 
-abbrev pub invariant-loop-t : goal.invariant-loop-t
-invariant-loop-t l = (length l.seats ≡ 32) × SeatsBelow l.relations l.places l.seats l.t
+abbrev pub invariant-loop-step : goal.invariant-loop-step
+invariant-loop-step l = Seating l.relations l.places.list.now l.seats l.step-iterator

@@ -1,22 +1,26 @@
-use Rattle.std.proofs.Common.{ap, ◌∙◌, arith}
+use Rattle.std.proofs.Common.{rules, ap, ◌∙◌, arith}
 use Rattle.net.specs.Net.{loop_word}
-use Rattle.net.proofs.Putting.{seat_word, puts_word, putting_taken, putting_left, put_loops_lem}
+use Rattle.net.proofs.Putting.{seat_word, putting_none, putting_more, putting_all, putting_step, loop_words_lem}
 use Rattle.net.proofs.writing.put_loops.Goals as goal
-use Rattle.net.proofs.writing.put_loops.Goals.{then-has, else-has}
 
-pub loop-s-preserved : goal.loop-s-preserved
-loop-s-preserved c =
-    let old = c.args.out.now in
-    let at = c.args.at in
-    let f = seat_word c.args.seats.now in
-    let steps = c.args.steps in
-    elim c.if-has.branch [
-      | then-has w ↦ (rw (w.out-is, w.end-is) (putting_taken old at f steps c.loop-s.s w.if-has.ensures c.loop-s.invariant.0 (puts_word w.put.ensures (w.tagged.ensures ∙ ap (λ n. loop_word (c.loop-s.s, n)) w.from.ensures))), omega (arith, w.end-is, c.loop-s.invariant.1))
-      | else-has w ↦ (rw (w.out-is, w.end-is) (putting_left old at f steps c.loop-s.s w.if-has.ensures c.loop-s.invariant.0), omega (arith, w.end-is, c.loop-s.invariant.1))
-    ]
+pub loop-step-init : goal.loop-step-init
+loop-step-init c = putting_none c.args.cursor.now (seat_word c.args.seats.now) c.args.steps (search rules)
+
+pub bounds-seats-step : goal.bounds-seats-step
+bounds-seats-step c = putting_step c.loop-step.invariant c.in-Some.ensures.steps
+
+pub overflow_cast-step : goal.overflow_cast-step
+overflow_cast-step c = omega (arith, putting_step c.loop-step.invariant c.in-Some.ensures.steps)
+
+pub overflow_add-from : goal.overflow_add-from
+overflow_add-from c = omega (arith, c.from.type_inv, c.from.ensures, putting_step c.loop-step.invariant c.in-Some.ensures.steps)
+
+pub word-requires : goal.word-requires
+word-requires c = omega (arith, putting_step c.loop-step.invariant c.in-Some.ensures.steps)
+
+pub loop-step-preserved : goal.loop-step-preserved
+loop-step-preserved c =
+    putting_more c.loop-step.invariant c.in-Some.ensures.steps (c.word.ensures ∙ ap (λ n. loop_word (c.in-Some.step, n)) c.from.ensures) c.put.ensures
 
 pub returns : goal.returns
-returns c = record {
-  puts = put_loops_lem c.args.out.now c.loop-s.out c.args.at c.args.steps c.loop-s.s c.loop-s.end c.args.seats.now (omega arith) c.loop-s.invariant.0;
-  few = omega (arith, c.loop-s.invariant.1);
-}
+returns c = loop_words_lem c.args.steps c.args.seats.now (putting_all c.loop-step.invariant c.in-None.ensures.steps.0)

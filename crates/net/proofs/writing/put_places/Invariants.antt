@@ -1,6 +1,7 @@
-use Rattle.std.proofs.Common.{◌+◌, ◌*◌, ◌≤◌, take}
-use Rattle.net.specs.Writing.{Puts, groups_words}
+use Rattle.std.proofs.Common.{take}
+use Rattle.cursors.specs.Adds.{Adds}
+use Rattle.net.specs.Writing.{groups_words}
 use Rattle.net.proofs.writing.put_places.Given as goal
 
-abbrev pub invariant-loop-k : goal.invariant-loop-k
-invariant-loop-k l = Puts l.initial.out l.at (groups_words (take l.k l.places)) l.out l.end × (l.end ≤ l.at + 65 * l.k)
+abbrev pub invariant-loop-number : goal.invariant-loop-number
+invariant-loop-number l = Adds l.initial.cursor (groups_words (take l.number l.places.list.now)) l.cursor

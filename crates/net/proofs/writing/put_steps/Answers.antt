@@ -1,22 +1,20 @@
-use Rattle.std.proofs.Common.{arith}
+use Rattle.std.proofs.Common.{rules, arith}
+use Rattle.net.specs.Kinds.{number_of}
 use Rattle.net.specs.Net.{word}
-use Rattle.net.proofs.Putting.{puts_word, putting_taken, putting_left, put_steps_lem}
+use Rattle.net.proofs.Putting.{putting_none, putting_more, putting_all, putting_step, step_words_lem}
 use Rattle.net.proofs.writing.put_steps.Goals as goal
-use Rattle.net.proofs.writing.put_steps.Goals.{then-has, else-has}
 
-pub loop-s-preserved : goal.loop-s-preserved
-loop-s-preserved c =
-    let old = c.args.out.now in
-    let at = c.args.at in
-    let f = word c.args.kind in
-    let steps = c.args.steps in
-    elim c.if-has.branch [
-      | then-has w ↦ (rw (w.out-is, w.end-is) (putting_taken old at f steps c.loop-s.s w.if-has.ensures c.loop-s.invariant.0 (puts_word w.put.ensures w.tagged.ensures)), omega (arith, w.end-is, c.loop-s.invariant.1))
-      | else-has w ↦ (rw (w.out-is, w.end-is) (putting_left old at f steps c.loop-s.s w.if-has.ensures c.loop-s.invariant.0), omega (arith, w.end-is, c.loop-s.invariant.1))
-    ]
+pub loop-step-init : goal.loop-step-init
+loop-step-init c = putting_none c.args.cursor.now (word (number_of c.args.kind)) c.args.steps (search rules)
+
+pub overflow_cast-step : goal.overflow_cast-step
+overflow_cast-step c = omega (arith, putting_step c.loop-step.invariant c.in-Some.ensures.steps)
+
+pub word-requires : goal.word-requires
+word-requires c = omega (arith, putting_step c.loop-step.invariant c.in-Some.ensures.steps)
+
+pub loop-step-preserved : goal.loop-step-preserved
+loop-step-preserved c = putting_more c.loop-step.invariant c.in-Some.ensures.steps c.word.ensures c.put.ensures
 
 pub returns : goal.returns
-returns c = record {
-  puts = put_steps_lem c.args.out.now c.loop-s.out c.args.at c.args.kind c.args.steps c.loop-s.s c.loop-s.end (omega arith) c.loop-s.invariant.0;
-  few = omega (arith, c.loop-s.invariant.1);
-}
+returns c = step_words_lem (number_of c.args.kind) c.args.steps (putting_all c.loop-step.invariant c.in-None.ensures.steps.0)

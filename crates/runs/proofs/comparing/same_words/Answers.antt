@@ -9,7 +9,7 @@ use Rattle.std.proofs.lemmas.Bool.Decides.{Decides-eqb}
 pub returns : goal.returns
 returns g c =
     let e : (c.eq.result ≡ true) ↔ (c.args.a.now ≡ c.args.b.now) = slice_eq-Decides Decides-eqb c.args.a.now c.args.b.now c.eq.result c.eq.ensures in
-    let (draws, agree) = main_law g.S.Step.order c.args.roster.now.entries.now in
+    let (draws, agree) = main_law g.S.Ord.cmp c.args.roster.now.entries.now in
     record {
       equal = e;
       law = λ js ks d d'.

@@ -1,10 +1,8 @@
-use Rattle.std.proofs.Common.{subst, below_more}
-use Rattle.std.proofs.lemmas.List.{get_or_read}
+use Rattle.std.proofs.Common.{rules}
+use Rattle.std.proofs.lemmas.Iterator.{IsFirst-from_position, YieldsList-from_slice}
 use Rattle.steps.specs.Rosters.{Listed}
+use Rattle.steps.proofs.Firsts.{unlisted_from_first}
 use Rattle.steps.proofs.rosters.first_unlisted.Goals as goal
 
-pub loop-at-preserved : goal.loop-at-preserved
-loop-at-preserved g c = below_more _ _ c.loop-at.invariant (λ d.
-    let found = c.in_default.ensures in
-    let event = get_or_read c.args.job.now c.loop-at.at c.index-job-at.result c.loop-at-test.true c.index-job-at.is d in
-    subst (Listed c.args.steps.now) event (c.in_default.field-0, found.0, found.1))
+pub returns : goal.returns
+returns g c = unlisted_from_first _ _ _ (IsFirst-from_position _ _ _ (λ x. Listed c.args.steps.now x → ⊥) (λ x. Listed c.args.steps.now x) c.position.ensures.ran (YieldsList-from_slice c.args.job.now c.iter.ensures.rest) (λ x q k. search rules) (λ x q k. search rules))

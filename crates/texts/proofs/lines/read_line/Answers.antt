@@ -1,6 +1,6 @@
 use Rattle.std.proofs.Common.{◌≡◌, ◌+◌, ◌<◌, ◌≤◌, false, [], length, take, drop, set, sym, ap, ◌∙◌, arith}
 use Rattle.trails.specs.Told.{first}
-use Rattle.texts.specs.declared.verdicts.Verdict.TheVariants.{Take, Gap, Close, Stop}
+use Rattle.texts.specs.declared.verdicts.Verdict.TheVariants.{Take, Gap, Close, Over, Wrong}
 use Rattle.texts.specs.Scan.{scan, from}
 use Rattle.texts.proofs.Sofar.{Sofar, Outcome, turned, took, spelled_token}
 use Rattle.texts.proofs.lines.read_line.Goals as goal
@@ -58,7 +58,12 @@ returns-in-Close c =
     let o = turned c.args.text.now c.loop-name.lexer.text.now c.args.at c.loop-name.lexer.at c.token.new.self.at c.loop-name.len c.loop-name.work inv.1 inv.0 (omega arith) c.token.result c.loop-name.due Close c.token.ensures.read c.in-Close.ensures inv.2 in
     (omega (arith, c.offset.ensures.1, ap length c.token.ensures.text_unchanged, ap length inv.1), inv.0, o ∙ ap (λ k. first (take c.loop-name.len c.loop-name.work) (from c.args.text.now k)) (sym c.offset.ensures.0))
 
-pub returns-in-Stop : goal.returns-in-Stop
-returns-in-Stop c =
+pub returns-in-Over : goal.returns-in-Over
+returns-in-Over c =
     let inv = c.loop-name.invariant in
-    turned c.args.text.now c.loop-name.lexer.text.now c.args.at c.loop-name.lexer.at c.token.new.self.at c.loop-name.len c.loop-name.work inv.1 inv.0 (omega arith) c.token.result c.loop-name.due (Stop c.in-Stop.ending) c.token.ensures.read c.in-Stop.ensures inv.2
+    turned c.args.text.now c.loop-name.lexer.text.now c.args.at c.loop-name.lexer.at c.token.new.self.at c.loop-name.len c.loop-name.work inv.1 inv.0 (omega arith) c.token.result c.loop-name.due Over c.token.ensures.read c.in-Over.ensures inv.2
+
+pub returns-in-Wrong : goal.returns-in-Wrong
+returns-in-Wrong c =
+    let inv = c.loop-name.invariant in
+    turned c.args.text.now c.loop-name.lexer.text.now c.args.at c.loop-name.lexer.at c.token.new.self.at c.loop-name.len c.loop-name.work inv.1 inv.0 (omega arith) c.token.result c.loop-name.due (Wrong c.in-Wrong.fault) c.token.ensures.read c.in-Wrong.ensures inv.2

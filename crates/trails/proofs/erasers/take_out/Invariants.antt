@@ -1,6 +1,6 @@
-use Rattle.std.proofs.Common.{◌≡◌, ◌≤◌, take, drop}
-use Rattle.trails.specs.Erased.{without}
+use Rattle.std.proofs.lemmas.List.Filters.{FiltersInPlace}
+use Rattle.std.specs.Ordering.{is_ne}
 use Rattle.trails.proofs.erasers.take_out.Given as goal
 
 abbrev pub invariant-loop-i : goal.invariant-loop-i
-invariant-loop-i g l = (l.left ≤ l.i) × (take l.left l.work ≡ without g.S.Step.order l.step (take l.i l.initial.work)) × (drop l.i l.work ≡ drop l.i l.initial.work)
+invariant-loop-i g l = FiltersInPlace (λ x. is_ne (g.S.Ord.cmp x l.step)) l.initial.work l.work l.left l.i

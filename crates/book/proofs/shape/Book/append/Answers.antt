@@ -1,19 +1,10 @@
 use Rattle.std.proofs.Common.{◌≡◌, ℕ, ◌+◌, ◌^◌, ◌<◌, List, ◌++◌, length, take, set, sym, refl, ap, ◌∙◌, subst, add-one, arith}
-use lib.Seq.{paste, paste-zero, paste-suc, length-paste}
+use lib.Seq.{paste, paste-suc, length-paste}
 use Rattle.book.specs.Jobs.{encoded}
-use Rattle.book.proofs.Lay.{kept, Facts, facts, appended, appended_held, paste_head, took, used_is}
+use Rattle.book.proofs.Lay.{Facts, facts, appended, appended_held, paste_head, took, used_is}
 use Rattle.std.proofs.lemmas.List.{length-set}
 use Rattle.book.proofs.shape.Book.append.Goals as goal
 use Rattle.book.proofs.shape.Book.append.Goals.{After-loop-k}
-
-pub invariant_of-self : goal.invariant_of-self
-invariant_of-self c = kept _ _ c.args.self.now.words.now _ _ (omega arith) (facts c.args.self.now)
-
-pub loop-k-init : goal.loop-k-init
-loop-k-init c = (paste-zero _ (c.args.self.now.used + 1) c.args.job.now, refl, refl, refl)
-
-pub invariant_of-self-in-loop-k : goal.invariant_of-self-in-loop-k
-invariant_of-self-in-loop-k c = kept _ _ c.loop-k.self.words.now _ _ (omega arith) (facts c.loop-k.self)
 
 pub loop-k-preserved : goal.loop-k-preserved
 loop-k-preserved c =
@@ -54,4 +45,4 @@ invariant_of-self-2 c =
 pub returns : goal.returns
 returns c =
     let d = (goal.at.returns c).After-loop-k in
-    record { words = wrote d ∙ ap (λ (n : ℕ). paste c.args.self.now.words.now n (encoded c.args.job.now) (length (encoded c.args.job.now))) (used_is c.args.self.now c.requires.open); long = as_long d; used = refl; held = appended_held c.args.self.now.steps c.args.self.now.used c.args.self.now.words.now c.args.job.now c.requires.open (facts c.args.self.now) c.requires.steps c.loop-k.self.words.now _ (fronts d); steps = c.loop-k.invariant.2; named = c.loop-k.invariant.3 }
+    record { words = wrote d ∙ ap (λ (n : ℕ). paste c.args.self.now.words.now n (encoded c.args.job.now) (length (encoded c.args.job.now))) (used_is c.args.self.now c.requires.open); used = refl; held = appended_held c.args.self.now.steps c.args.self.now.used c.args.self.now.words.now c.args.job.now c.requires.open (facts c.args.self.now) c.requires.steps c.loop-k.self.words.now _ (fronts d); stays = record { steps = c.loop-k.invariant.2; long = as_long d; named = c.loop-k.invariant.3 } }

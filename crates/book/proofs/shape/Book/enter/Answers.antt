@@ -9,9 +9,7 @@ returns g c =
     let done = c.enter_job.ensures in
     record {
       entered = done.entered;
-      only = λ s js other. settled g.T.Step.order book.steps (length (memory_of book)) (held_by book) book.apart c.args.roster.now.entries.now c.args.job.now c.enter_job.result s (held_by c.enter_job.new.self) js done.entered other;
+      only = λ s js other. settled g.T.Ord.cmp book.steps (length (memory_of book)) (held_by book) book.apart c.args.roster.now.entries.now c.args.job.now c.enter_job.result s (held_by c.enter_job.new.self) js done.entered other;
       written = done.written;
-      long = done.long;
-      steps = done.steps;
-      named = done.named;
+      stays = done.stays;
     }

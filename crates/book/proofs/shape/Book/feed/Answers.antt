@@ -11,11 +11,9 @@ returns g c =
     let jobs = g.T.Trail.jobs in
     record {
       fed = done.fed;
-      only = λ s hs left other. fed_once g.T.Step.Step.order book.steps (length (memory_of book)) c.args.roster.now.entries.now (jobs c.args.trail.now) (g.T.Trail.ending c.args.trail.now) (length c.args.work.now) (held_by book) book.apart c.feed_trail.result s (held_by c.feed_trail.new.self) hs (jobs c.feed_trail.new.trail) left done.fed other;
-      together = together g.T.Step.Step.order book.steps (length (memory_of book)) c.args.roster.now.entries.now (jobs c.args.trail.now) (g.T.Trail.ending c.args.trail.now) (held_by book) c.feed_trail.result (held_by c.feed_trail.new.self) (jobs c.feed_trail.new.trail);
+      only = λ s hs left other. fed_once g.T.Step.Ord.cmp book.steps (length (memory_of book)) c.args.roster.now.entries.now (jobs c.args.trail.now) (g.T.Trail.ending c.args.trail.now) (length c.args.work.now) (held_by book) book.apart c.feed_trail.result s (held_by c.feed_trail.new.self) hs (jobs c.feed_trail.new.trail) left done.fed other;
+      together = together g.T.Step.Ord.cmp book.steps (length (memory_of book)) c.args.roster.now.entries.now (jobs c.args.trail.now) (g.T.Trail.ending c.args.trail.now) (held_by book) c.feed_trail.result (held_by c.feed_trail.new.self) (jobs c.feed_trail.new.trail);
       ending = done.ending;
       laid = done.laid;
-      long = done.long;
-      steps = done.steps;
-      named = done.named;
+      stays = done.stays;
     }

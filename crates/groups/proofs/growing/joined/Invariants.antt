@@ -1,6 +1,0 @@
-use Rattle.groups.specs.Rows.{held}
-use Rattle.groups.proofs.Grow.{Growing}
-use Rattle.groups.proofs.growing.joined.Given as goal
-
-abbrev pub invariant-loop-x : goal.invariant-loop-x
-invariant-loop-x l = Growing (held l.rows) l.set l.group l.x

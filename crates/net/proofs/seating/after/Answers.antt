@@ -1,4 +1,0 @@
-use Rattle.net.proofs.seating.after.Goals as goal
-
-pub returns : goal.returns
-returns c = λ i s. c.only_after.ensures s i
