@@ -1,4 +1,4 @@
-ghost use Rattle.std.specs.Prelude.{◌≡◌, List, ◌<◌, length, min, MatchOption};
+ghost use Rattle.std.specs.Prelude.{◌≡◌, ◌^◌, ◌-◌, List, ◌<◌, length, min, MatchOption};
 ghost use Rattle.cursors.specs.Adds.{Adds, Wrote};
 
 use crate::cursor::Cursor;
@@ -17,7 +17,7 @@ const MOST: usize = usize::MAX - 1;
 // Writes the items at the start of the memory, and leaves the rest as it was. Answers how many there are; none where they
 // have no room, and the memory is then as it was.
 pub fn write<T: Copy, P: Put<T>>(what: &P, out: &mut [T]) -> Option<usize>
-    ensures { MatchOption result ((min (length out.old) MOST < length (P.items what.now)) × (out.new ≡ out.old)) (λ n. Wrote out.old (P.items what.now) out.new n) }
+    ensures { MatchOption result ((min (length out.old) (2 ^ 64 - 2) < length (P.items what.now)) × (out.new ≡ out.old)) (λ n. Wrote out.old (P.items what.now) out.new n) }
 {
     let mut counter = Cursor::new(&mut []);
     what.put_into(&mut counter);
