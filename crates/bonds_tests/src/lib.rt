@@ -1,9 +1,28 @@
 // Examples of the two bonds of a book and of their lists: the side-by-side groups, places, and as many places as a list can
-// have and more.
+// have and more. And two callers that know of whatever relations they are lent that no step is past 31.
 #![tactic(auto)]
+
+ghost use Rattle.std.specs.Prelude.{◌≡◌, false};
+
+use flow::Relations;
+
+// No row is past the last step's.
+fn precedes_from_past(relations: &Relations, b: usize) -> bool
+    ensures { result ≡ false }
+{
+    relations.precedes(32, b)
+}
+
+// No number past the last step is in a set.
+fn only_before_has_past(relations: &Relations, t: usize) -> bool
+    ensures { result ≡ false }
+{
+    relations.only_before(t).has(40)
+}
 
 #[cfg(test)]
 mod tests {
+    use super::*;
     use bonds::{BondFault, PlaceBond, SideBond, list_places, list_sides};
     use book::{Book, Void};
     use groups::{Bond, ListFault};
@@ -178,5 +197,17 @@ mod tests {
         assert_eq!(rt; places.pair(63, 64), false);
         assert_eq!(rt; places.pair(0, 33), false);
         assert_eq!(rt; sides.pair(0, 0), false);
+    }
+
+    #[test]
+    fn numbers_past_the_last_step(rt: HostRuntime) -> Result<(), Fail> {
+        let mut memory = [0u32; 8];
+        let mut book = Book::open(&mut memory, 2);
+        feed(&rt, &mut book, b"A B\nA B\n")?;
+        let relations = Relations::of(&book);
+        assert!(rt; relations.precedes(0, 1));
+        assert!(rt; !precedes_from_past(&relations, 1));
+        assert!(rt; !only_before_has_past(&relations, 1));
+        Ok(())
     }
 }

@@ -1,4 +1,4 @@
-ghost use Rattle.std.specs.Prelude.{◌≡◌, ℕ, ◌≤◌, List, length, MatchResult, Result as Perhaps};
+ghost use Rattle.std.specs.Prelude.{◌≡◌, ℕ, ◌≤◌, List, [], length, MatchResult, Result as Perhaps};
 ghost use Rattle.steps.specs.Rosters.{Fit, numbers};
 ghost use Rattle.book.specs.Enter.{AllNumbered, Countable, Entered, Unnumbered, written};
 ghost use Rattle.book.specs.Jobs.{Opens};
@@ -13,23 +13,25 @@ use steps::{Roster, RosterFault, Step};
 // The most events that a job has.
 const MOST: usize = 1000;
 
-// The step numbers of a job, or its first event that is not on the roster.
+// Puts the step numbers of a job into a list, or finds its first event that is not on the roster. The list is the caller's,
+// since a list that is answered is copied whole, however short the job.
 pub(crate) fn number_events<T: Step>(
     roster: &Roster<T>,
     job: &[T],
-) -> Result<ArrayVec<u8, MOST>, RosterFault>
+    numbers: &mut ArrayVec<u8, MOST>,
+) -> Result<(), RosterFault>
     requires few { length roster.now.entries.now ≤ 32 }
     requires sized { length job.now ≤ 1000 }
-    ensures { MatchResult result (λ out. AllNumbered T.cmp roster.now.entries.now job.now out.items) (λ fault. Unnumbered roster.now.entries.now job.now fault) }
+    requires empty { numbers.old.items ≡ [] }
+    ensures { MatchResult result (λ _. AllNumbered T.cmp roster.now.entries.now job.now numbers.new.items) (λ fault. Unnumbered roster.now.entries.now job.now fault) }
 {
-    let mut numbers = ArrayVec::new();
     for (place, event) in job.iter().enumerate() {
         let Some(number) = roster.number(event) else {
             return Err(RosterFault::Unlisted { place });
         };
         numbers.push(number as u8);
     }
-    Ok(numbers)
+    Ok(())
 }
 
 impl Book<'_> {
@@ -44,7 +46,8 @@ impl Book<'_> {
         if job.is_empty() || job.len() > MOST {
             return Err(EnterFault::Events);
         }
-        let numbers = number_events(roster, job)?;
+        let mut numbers = ArrayVec::new();
+        number_events(roster, job, &mut numbers)?;
         Ok(self.keep(numbers.as_slice())?)
     }
 

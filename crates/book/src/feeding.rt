@@ -9,6 +9,7 @@ use crate::entering::number_events;
 use crate::entries::Entry;
 use crate::faults::FeedFault;
 use crate::shape::Book;
+use arrayvec::ArrayVec;
 use steps::{Roster, Step};
 use trails::{Trail, TrailStop};
 
@@ -50,7 +51,8 @@ impl Book<'_> {
         ensures written { memory_of self.new ≡ written (held_by self.old) (numbers T.cmp roster.now.entries.now job.now) result (memory_of self.old) }
         ensures stays { Stays self.old self.new }
     {
-        let numbers = number_events(roster, job)?;
+        let mut numbers = ArrayVec::new();
+        number_events(roster, job, &mut numbers)?;
         Ok(self.keep(numbers.as_slice())?)
     }
 

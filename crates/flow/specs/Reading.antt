@@ -1,5 +1,5 @@
 -- What is noted of jobs as their words are read
-use Rattle.std.specs.Prelude.{◌≡◌, ℕ, ◌<◌, ◌≤◌, Bool, false, not, ◌&&◌, ◌||◌, List, [], ◌∷◌, map, MatchBool, filter, ◌==◌, bit_or}
+use Rattle.std.specs.Prelude.{◌≡◌, ℕ, ◌^◌, ◌<◌, ◌≤◌, Bool, false, not, ◌&&◌, ◌||◌, List, [], ◌∷◌, map, length, MatchBool, filter, ◌==◌, bit_or}
 use Rattle.flow.specs.declared.tally.Tally.{Tally}
 use Rattle.flow.specs.Bits.{bit, row}
 use Rattle.flow.specs.Flow.{Jobs, some, has, begins, ends, next, three}
@@ -10,6 +10,10 @@ Added old s new = (p : ℕ) → bit new p ≡ (bit old p || s == p)
 
 abbrev pub Joined : List ℕ → ℕ → ℕ → List ℕ → Type 0
 Joined old s set new = (a b : ℕ) → row new a b ≡ (row old a b || (s == a && bit set b))
+
+-- there is a row for each of the steps 0 to 31, and no other number is in a set
+abbrev pub Bounded : Tally → Type 0
+Bounded t = (length t.followed ≡ 32) × (length t.returns ≡ 32) × (t.seen < 2 ^ 32) × (t.looping < 2 ^ 32) × (t.first < 2 ^ 32) × (t.last < 2 ^ 32)
 
 -- what one event more of the job being read changes
 pub record Noted (old : Tally) (s : ℕ) (new : Tally) : Type 0 where

@@ -1,4 +1,4 @@
-ghost use Rattle.std.specs.Prelude.{◌≡◌, ℕ};
+ghost use Rattle.std.specs.Prelude.{◌≡◌, ℕ, ◌^◌, ◌<◌};
 ghost use Rattle.flow.specs.Bits.{bit, row};
 ghost use Rattle.flow.specs.Flow.{turn_of, leads_of, unrelated_of, beside_of, feeds_of};
 ghost use Rattle.flow.specs.Rows.{before_by, after_by, only_before_by, only_after_by, stands_by};
@@ -80,14 +80,16 @@ impl Relations {
 
     // The steps right before the step t in held jobs that do not loop and are not right after it.
     pub fn only_before(&self, t: usize) -> StepSet
-        ensures { (s : ℕ) → bit result s ≡ only_before_by self.now t s }
+        ensures steps { (s : ℕ) → bit result s ≡ only_before_by self.now t s }
+        ensures small { result < 2 ^ 32 }
     {
         self.before(t).without(self.after(t))
     }
 
     // The steps right after the step t in held jobs that do not loop and are not right before it.
     pub fn only_after(&self, t: usize) -> StepSet
-        ensures { (s : ℕ) → bit result s ≡ only_after_by self.now t s }
+        ensures steps { (s : ℕ) → bit result s ≡ only_after_by self.now t s }
+        ensures small { result < 2 ^ 32 }
     {
         self.after(t).without(self.before(t))
     }

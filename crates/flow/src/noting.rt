@@ -1,5 +1,5 @@
 ghost use Rattle.std.specs.Prelude.{◌<◌};
-ghost use Rattle.flow.specs.Reading.{Ended, Noted, Took};
+ghost use Rattle.flow.specs.Reading.{Bounded, Ended, Noted, Took};
 
 use crate::sets::StepSet;
 use crate::tally::Tally;
@@ -7,7 +7,8 @@ use crate::tally::Tally;
 impl Tally {
     // Takes one event more of the job that is being read.
     fn event(&mut self, step: usize)
-        ensures { step < 32 → Noted self.old step self.new }
+        ensures noted { step < 32 → Noted self.old step self.new }
+        ensures bounded { Bounded self.old → Bounded self.new }
     {
         self.seen = self.seen.with(step);
         if self.latest.is_empty() {
@@ -26,7 +27,8 @@ impl Tally {
 
     // Ends the job that is being read.
     pub(crate) fn end(&mut self)
-        ensures { Ended self.old self.new }
+        ensures ended { Ended self.old self.new }
+        ensures bounded { Bounded self.old → Bounded self.new }
     {
         self.last = self.last.union(self.latest);
         self.latest = StepSet::default();
@@ -35,7 +37,8 @@ impl Tally {
 
     // Takes one word more: a step, or the head of the next job.
     pub(crate) fn word(&mut self, left_out: StepSet, word: u32)
-        ensures { Took left_out self.old word self.new }
+        ensures took { Took left_out self.old word self.new }
+        ensures bounded { Bounded self.old → Bounded self.new }
     {
         if word >= 32 {
             self.end();

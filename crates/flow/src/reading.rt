@@ -1,6 +1,6 @@
 ghost use Rattle.book.specs.View.{held_by};
 ghost use Rattle.flow.specs.Means.{Means};
-ghost use Rattle.flow.specs.Reading.{Tallies, whole, without};
+ghost use Rattle.flow.specs.Reading.{Bounded, Tallies, whole, without};
 ghost use Rattle.flow.specs.Rows.{Shows};
 
 use crate::relations::Relations;
@@ -10,7 +10,8 @@ use book::Book;
 
 // The tally of the jobs that a book holds, without the steps of a set.
 fn tally_jobs(book: &Book, left_out: StepSet) -> Tally
-    ensures { Tallies (whole (without left_out (held_by book.now))) result }
+    ensures tallies { Tallies (whole (without left_out (held_by book.now))) result }
+    ensures bounded { Bounded result }
 {
     let words = book.job_words();
     let mut tally = Tally::default();

@@ -1,3 +1,5 @@
+ghost use Rattle.std.specs.Prelude.{◌≡◌, ◌^◌, ◌<◌, length};
+
 use crate::rows::StepRelation;
 use crate::sets::StepSet;
 
@@ -14,4 +16,7 @@ pub struct Relations {
     // the steps that come right after a step in a reduced job, and those of them after which it comes right again
     pub(crate) precedes: StepRelation,
     pub(crate) returns: StepRelation,
+    // no step is past 31, so that what is asked of such a number is answered as of rows that are empty there
+    ghost long: { (length follows ≡ 32) × (length followed ≡ 32) × (length precedes ≡ 32) × (length returns ≡ 32) },
+    ghost small: { (seen < 2 ^ 32) × (looping < 2 ^ 32) × (first < 2 ^ 32) × (last < 2 ^ 32) },
 }

@@ -1,4 +1,4 @@
-ghost use Rattle.std.specs.Prelude.{◌≡◌, ℕ, ◌<◌, ◌≤◌};
+ghost use Rattle.std.specs.Prelude.{◌≡◌, ℕ, ◌<◌, ◌≤◌, length};
 ghost use Rattle.flow.specs.Bits.{bit, row};
 ghost use Rattle.flow.specs.Reading.{Joined};
 
@@ -57,6 +57,7 @@ impl StepRelation {
     pub(crate) fn add(&mut self, step: usize, steps: StepSet)
         ensures step { step < 32 → Joined self.old step steps self.new }
         ensures past { 32 ≤ step → self.new ≡ self.old }
+        ensures long { length self.new ≡ length self.old }
     {
         if step < 32 {
             self.rows[step] = self.rows[step].union(steps);
@@ -65,7 +66,8 @@ impl StepRelation {
 
     // The relation turned about: a stands in it with b where b stands in this one with a.
     pub(crate) fn turned(&self) -> StepRelation
-        ensures { (a b : ℕ) → row result a b ≡ row self.now b a }
+        ensures about { (a b : ℕ) → row result a b ≡ row self.now b a }
+        ensures long { length result ≡ 32 }
     {
         let rows = &self.rows;
         StepRelation {

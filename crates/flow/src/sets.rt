@@ -1,4 +1,4 @@
-ghost use Rattle.std.specs.Prelude.{◌≡◌, ℕ, ◌<◌, ◌≤◌, false, not, ◌&&◌, ◌==◌, bit_or};
+ghost use Rattle.std.specs.Prelude.{◌≡◌, ℕ, ◌^◌, ◌<◌, ◌≤◌, false, not, ◌&&◌, ◌==◌, bit_or};
 ghost use Rattle.flow.specs.Bits.{bit};
 ghost use Rattle.flow.specs.Reading.{Added};
 
@@ -41,7 +41,8 @@ impl From<StepSet> for u32 {
 impl StepSet {
     // Whether a step is in the set. No number past 31 is.
     pub fn has(self, step: usize) -> bool
-        ensures { result ≡ bit self step }
+        ensures member { result ≡ bit self step }
+        ensures past { 32 ≤ step → result ≡ false }
     {
         step < 32 && self.bits >> step & 1 == 1
     }
@@ -57,6 +58,7 @@ impl StepSet {
     pub fn with(self, step: usize) -> StepSet
         ensures step { step < 32 → Added self step result }
         ensures past { 32 ≤ step → result ≡ self }
+        ensures small { result < 2 ^ 32 }
     {
         if step >= 32 {
             return self;
@@ -70,6 +72,7 @@ impl StepSet {
     pub(crate) fn union(self, other: StepSet) -> StepSet
         ensures both { result ≡ bit_or self other }
         ensures past { (s : ℕ) → 32 ≤ s → bit result s ≡ false }
+        ensures small { result < 2 ^ 32 }
     {
         StepSet {
             bits: self.bits | other.bits,
@@ -78,7 +81,8 @@ impl StepSet {
 
     // The steps of the set that are not in the other.
     pub fn without(self, other: StepSet) -> StepSet
-        ensures { (s : ℕ) → bit result s ≡ (bit self s && not (bit other s)) }
+        ensures steps { (s : ℕ) → bit result s ≡ (bit self s && not (bit other s)) }
+        ensures small { result < 2 ^ 32 }
     {
         StepSet {
             bits: self.bits & !other.bits,

@@ -12,11 +12,12 @@ use Rattle.steps.specs.declared.codes.Code as code
 use Rattle.std.proofs.lemmas.Bool.{and_parts, and_from, eqb-true, eq-eqb}
 use Rattle.std.specs.Cmp.{Equal-is, IsTotalOrder, IsPartialOrder, both_ways, nat_cmp_total, on_total, then_total, partial_order_from_agreeing_total}
 use Rattle.std.specs.Cmp.Lexicographic.{on_texts, pointwise, bytes_decides}
-use Rattle.std.specs.FinMap.{nat_cmp-IsAntisymmetric, slice_cmp-IsAntisymmetric}
+use Rattle.std.specs.FinMap.{nat_cmp-IsAntisymmetric}
 use Rattle.std.specs.declared.cmp.Ordering.{Ordering}
 use Rattle.std.specs.declared.cmp.Ordering.TheVariants.{Less, Equal, Greater}
 use Rattle.std.specs.Ordering.{as_partial_cmp, is_eq, nat_cmp, ordering_then}
 use Rattle.steps.specs.Orders.{OrderLaws, order_laws}
+use Rattle.steps.specs.Lexical.{lexical_laws}
 use Rattle.steps.specs.Ranges.{IsName}
 use Rattle.steps.specs.Kinds.{code_order, name_order, name_text}
 
@@ -50,8 +51,11 @@ same_name a b e =
     whole : (x : name.Name) → padded (name_text x) x.len ≡ x.bytes
     whole x = ap (λ t. name_text x ++ t) (sym x.lawful.3) ∙ take-append-drop x.len x.bytes
 
+pub code_total : IsTotalOrder code_order
+code_total = then_total (on_total (λ c. c.unit) nat_cmp_total) (on_total (λ c. c.code) nat_cmp_total)
+
 pub code_laws : OrderLaws code_order
-code_laws = order_laws (then_total (on_total (λ c. c.unit) nat_cmp_total) (on_total (λ c. c.code) nat_cmp_total)) (λ a b e.
+code_laws = order_laws code_total (λ a b e.
     let parts = both_equal (nat_cmp a.unit b.unit) (nat_cmp a.code b.code) e in
     same_code a b (nat_cmp-IsAntisymmetric _ _ parts.0) (nat_cmp-IsAntisymmetric _ _ parts.1))
   where
@@ -60,8 +64,19 @@ code_laws = order_laws (then_total (on_total (λ c. c.unit) nat_cmp_total) (on_t
     both_equal Equal s e = (refl, e)
     both_equal Greater s e = absurd (true≢false (ap is_eq (sym e)))
 
+pub code_ties : (a b : code.Code) → ((a.unit == b.unit) && (a.code == b.code)) ≡ is_eq (code_order a b)
+code_ties a b = both_ways ((a.unit == b.unit) && (a.code == b.code)) (is_eq (code_order a b)) (λ e.
+    let parts = and_parts (a.unit == b.unit) (a.code == b.code) e in
+    let one = same_code a b (eqb-true a.unit b.unit parts.0) (eqb-true a.code b.code parts.1) in
+    ap (λ n. is_eq (code_order a n)) (sym one) ∙ ap is_eq (code_laws.equal_is_same a)) (λ e.
+    let one = code_laws.same_is_equal a b ((Equal-is (code_order a b)).0 e) in
+    and_from (a.unit == b.unit) (a.code == b.code) (eq-eqb a.unit b.unit (ap (λ c. c.unit) one)) (eq-eqb a.code b.code (ap (λ c. c.code) one)))
+
+pub code_partial : IsPartialOrder (λ a b. (a.unit == b.unit) && (a.code == b.code)) (as_partial_cmp code_order)
+code_partial = partial_order_from_agreeing_total code_order code_total (λ x y. refl) code_ties
+
 pub name_laws : OrderLaws name_order
-name_laws = order_laws (on_texts name_text) (λ a b e. same_name a b (slice_cmp-IsAntisymmetric nat_cmp-IsAntisymmetric (name_text a) (name_text b) e))
+name_laws = lexical_laws name_text same_name
 
 pub name_total : IsTotalOrder name_order
 name_total = on_texts name_text

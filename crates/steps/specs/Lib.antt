@@ -4,4 +4,5 @@ pub mod Kinds
 pub mod Rosters
 pub mod Faults
 pub mod Making
+pub mod Lexical
 pub mod Alike

@@ -3,7 +3,7 @@ ghost use Rattle.steps.specs.Ranges.{IsUnit, IsCode};
 
 // A step as early cards write it: the unit of the card that took it, 0 to 63, and that unit's code for it, 0 to
 // 16,777,215.
-#[derive(Clone, Copy, PartialEq, Eq, PartialOrd, Ord, Debug)]
+#[derive(Clone, Copy, PartialEq, Eq, Debug)]
 pub struct Code {
     unit: u8,
     code: u32,

@@ -32,9 +32,10 @@ fn is_listed<T: Step>(steps: &[T], event: &T) -> bool
     steps.contains(event)
 }
 
-// The first event of a job that is none of the steps.
+// The first event of a job that is none of the steps. No other answer is right.
 fn first_unlisted<T: Step>(steps: &[T], job: &[T]) -> Option<usize>
-    ensures { FirstUnlisted steps.now job.now result }
+    ensures first { FirstUnlisted steps.now job.now result }
+    ensures only { (s : Perhaps ℕ) → FirstUnlisted steps.now job.now s → s ≡ result }
 {
     job.iter().position(|event| !is_listed(steps, event))
 }

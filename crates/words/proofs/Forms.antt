@@ -1,5 +1,5 @@
 -- A word and its written form. Assumes nothing.
-use Rattle.std.proofs.Common.{◌≡◌, ℕ, ◌+◌, ◌/◌, ◌%◌, ◌^◌, ◌≤◌, sym, ap, ◌∙◌, arith}
+use Rattle.std.proofs.Common.{◌≡◌, ℕ, ◌+◌, ◌/◌, ◌%◌, ◌^◌, ◌≤◌, sym, refl, ap, ◌∙◌, arith}
 use Rattle.std.proofs.lemmas.Bool.Decides.{nat_tests}
 use Rattle.std.proofs.lemmas.Bool.{cond-true, cond-false, eq-eqb, ne_eqb}
 use Rattle.steps.specs.declared.codes.Code.{Code}
@@ -34,3 +34,6 @@ head_says n h =
     let r : head_word n % 2 ^ 30 ≡ n = omega arith in
     let some : head_word n / 2 ^ 30 ≡ 0 → ⊥ = λ z. omega arith in
     cond-false _ _ _ (ne_eqb _ 0 some) ∙ cond-true _ _ _ (eq-eqb _ 1 k) ∙ ap Head r
+
+pub end_says : word_of end_word ≡ Stop 0
+end_says = refl

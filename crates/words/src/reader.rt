@@ -71,6 +71,8 @@ impl<'a> Trail for WordTrail<'a> {
 
     ghost ending = { λ t. (from t.words.now t.at).ending };
 
+    // Inlined, since a job of one event costs little more than the call.
+    #[inline]
     fn next(&mut self, work: &mut [Code]) -> Result<Option<usize>, TrailStop> {
         if work.len() < 1000 {
             return Err(TrailStop::ShortWork);

@@ -16,7 +16,7 @@ loop-b-preserved c =
     let rows = c.args.rows.now in
     let step = c.args.step in
     let in_row : ℕ → Bool = λ b. row rows b step in
-    let here : c.has.result ≡ in_row c.loop-b.b = c.has.ensures ∙ ap (λ g. bit g step) (get_or_default rows c.loop-b.b c.index-rows-b.result 0 (omega arith)) in
+    let here : c.has.result ≡ in_row c.loop-b.b = c.has.ensures.member ∙ ap (λ g. bit g step) (get_or_default rows c.loop-b.b c.index-rows-b.result 0 (omega arith)) in
     let more = those_more in_row c.loop-b.set c.loop-b.b c.if-has.set c.loop-b.invariant in
     elim c.if-has.branch [
       | then-has w ↦ more _ (sym w.if-has.true ∙ here) (rw w.set-is (w.with-set.ensures.step c.loop-b-test.true))

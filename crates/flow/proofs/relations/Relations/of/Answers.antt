@@ -9,6 +9,6 @@ pub returns : goal.returns
 returns c =
     let js = held_by c.args.book.now in
     let none : c.default.result ≡ 0 = search rules in
-    let held = subst (λ ks. Tallies (whole ks) c.tally_jobs-held.result) (without_none js) (rw none at c.tally_jobs-held.ensures) in
-    let left = subst (λ ks. Tallies (whole ks) c.tally_jobs-reduced.result) (without_looping js c.tally_jobs-held.result.looping held.looping_is) c.tally_jobs-reduced.ensures in
+    let held = subst (λ ks. Tallies (whole ks) c.tally_jobs-held.result) (without_none js) (rw none at c.tally_jobs-held.ensures.tallies) in
+    let left = subst (λ ks. Tallies (whole ks) c.tally_jobs-reduced.result) (without_looping js c.tally_jobs-held.result.looping held.looping_is) c.tally_jobs-reduced.ensures.tallies in
     record { shows = search rules; means = means js }

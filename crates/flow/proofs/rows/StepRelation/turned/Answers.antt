@@ -12,8 +12,8 @@ turned_row c a b =
     (λ l. row_past c.from_fn.result a b (rw c.from_fn.ensures.items.long l) ∙ sym (c.self.invariant.1 b a l))
     (cases_lt a 32)
 
-pub returns : goal.returns
-returns c = λ a b. rw (← c.self.view_is) (turned_row c a b)
+pub returns-clause-about : goal.returns-clause-about
+returns-clause-about c = λ a b. rw (← c.self.view_is) (turned_row c a b)
 
 pub invariant_of-result : goal.invariant_of-result
 invariant_of-result c = (c.from_fn.ensures.items.long, λ a b l. turned_row c a b ∙ row_past c.self.inside.rows b a (rw c.self.invariant.0 l))

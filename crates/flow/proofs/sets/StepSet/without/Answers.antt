@@ -4,8 +4,8 @@ use Rattle.flow.specs.Bits.{bit}
 use Rattle.flow.proofs.Bits.{bit_and_lem, bit_other, bit_small}
 use Rattle.flow.proofs.sets.StepSet.without.Goals as goal
 
-pub returns : goal.returns
-returns c =
+pub returns-clause-steps : goal.returns-clause-steps
+returns-clause-steps c =
     let x = c.self.inside.bits in
     let y = c.other.inside.bits in
     rw (← c.self.view_is, ← c.other.view_is) (λ s. bit_and_lem x (4294967295 - y) s ∙ ⊎_elim
