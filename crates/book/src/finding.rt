@@ -9,11 +9,16 @@ pub(crate) const HEAD: u32 = 0x4000_0000;
 fn same(events: &[u32], job: &[u8]) -> bool
     ensures { MatchBool result (events.now ≡ job.now) (events.now ≢ job.now) }
 {
-    events.len() == job.len()
-        && events
-            .iter()
-            .zip(job)
-            .all(|(word, number)| *word == u32::from(*number))
+    if events.len() != job.len() {
+        return false;
+    }
+    // By place: `all` over `zip` takes a third more for each held job that differs.
+    for (k, number) in job.iter().enumerate() {
+        if events[k] != u32::from(*number) {
+            return false;
+        }
+    }
+    true
 }
 
 // The number of the held job that is equal to a job, or else how many are held: as `binary_search`, it answers the place
