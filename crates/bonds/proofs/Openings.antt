@@ -1,11 +1,7 @@
 -- The bond of a book that is open, and of one that is void
-use Rattle.std.proofs.Common.{◌≡◌, ℕ, Bool, true, false, ◌&&◌, leb, Ok, Err, Result, sym}
-use Rattle.std.specs.Result.{is_ok}
+use Rattle.std.proofs.Common.{◌≡◌, ℕ, Bool, true, false, ◌&&◌, leb, sym}
 use Rattle.std.proofs.lemmas.Bool.{and_from, and_parts, le-leb, leb-true}
-use Rattle.book.specs.declared.faults.Void.{Void}
 use Rattle.book.specs.Jobs.{Opens}
-use Rattle.book.specs.Enter.{OpenOrNot}
-use Rattle.book.proofs.Voids.{void_open}
 use Rattle.flow.proofs.Bits.{fails}
 use Rattle.bonds.specs.Pairs.{opens, of_book}
 
@@ -25,12 +21,3 @@ of_open_lem steps len pairs o = let e = sym (opens_true steps len o) in λ i p q
 
 pub of_void_lem : (steps len : ℕ) (pairs : ℕ → ℕ → Bool) → (Opens steps len → ⊥) → (λ p q. false) ≡ of_book steps len pairs
 of_void_lem steps len pairs v = let e = sym (fails (opens steps len) (λ t. v (from_open steps len t))) in λ i p q. e i && pairs p q
-
--- what a book answers that may be void
-pub opened : (steps len : ℕ) (v : Result (Unit {0}) Void) → OpenOrNot steps len v → is_ok v ≡ true → Opens steps len
-opened steps len (Ok u) o e = o
-opened steps len (Err v) o e = cc
-
-pub voided : (steps len : ℕ) (v : Result (Unit {0}) Void) → OpenOrNot steps len v → is_ok v ≡ false → Opens steps len → ⊥
-voided steps len (Ok u) o e = cc
-voided steps len (Err v) o e = void_open steps len v o
