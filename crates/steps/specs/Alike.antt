@@ -1,5 +1,5 @@
 -- Two steps of one kind that are told alike are one. Assumes nothing.
-use Rattle.std.specs.Prelude.{◌≡◌, ℕ, ◌-◌, Bool, ◌&&◌, List, ◌++◌, length, replicate, nat_eq, ◌==◌, refl}
+use Rattle.std.specs.Prelude.{◌≡◌, ℕ, ◌-◌, Bool, true, ◌&&◌, List, ◌++◌, length, replicate, nat_eq, ◌==◌, refl}
 use Rattle.std.proofs.Common.{true≢false, sym, ap, ◌∙◌, arith}
 use mathlib.Core.HLevel.{is_prop→PathP, ×_prop}
 use mathlib.Core.List.{is_set}
@@ -51,6 +51,12 @@ same_name a b e =
     whole : (x : name.Name) → padded (name_text x) x.len ≡ x.bytes
     whole x = ap (λ t. name_text x ++ t) (sym x.lawful.3) ∙ take-append-drop x.len x.bytes
 
+-- a test that tells equal steps from others is the order's: its ties are the equal steps alone
+equal_ties : {S : Type 0} {order : S → S → Ordering} → OrderLaws order → (same : S → S → Bool) → ((a b : S) → same a b ≡ true → a ≡ b) → ((a : S) → same a a ≡ true) → (a b : S) → same a b ≡ is_eq (order a b)
+equal_ties {order = order} laws same to itself a b = both_ways (same a b) (is_eq (order a b))
+    (λ e. ap (λ n. is_eq (order a n)) (sym (to a b e)) ∙ ap is_eq (laws.equal_is_same a))
+    (λ e. ap (same a) (sym (laws.same_is_equal a b ((Equal-is (order a b)).0 e))) ∙ itself a)
+
 pub code_total : IsTotalOrder code_order
 code_total = then_total (on_total (λ c. c.unit) nat_cmp_total) (on_total (λ c. c.code) nat_cmp_total)
 
@@ -65,12 +71,10 @@ code_laws = order_laws code_total (λ a b e.
     both_equal Greater s e = absurd (true≢false (ap is_eq (sym e)))
 
 pub code_ties : (a b : code.Code) → ((a.unit == b.unit) && (a.code == b.code)) ≡ is_eq (code_order a b)
-code_ties a b = both_ways ((a.unit == b.unit) && (a.code == b.code)) (is_eq (code_order a b)) (λ e.
+code_ties = equal_ties code_laws (λ a b. (a.unit == b.unit) && (a.code == b.code)) (λ a b e.
     let parts = and_parts (a.unit == b.unit) (a.code == b.code) e in
-    let one = same_code a b (eqb-true a.unit b.unit parts.0) (eqb-true a.code b.code parts.1) in
-    ap (λ n. is_eq (code_order a n)) (sym one) ∙ ap is_eq (code_laws.equal_is_same a)) (λ e.
-    let one = code_laws.same_is_equal a b ((Equal-is (code_order a b)).0 e) in
-    and_from (a.unit == b.unit) (a.code == b.code) (eq-eqb a.unit b.unit (ap (λ c. c.unit) one)) (eq-eqb a.code b.code (ap (λ c. c.code) one)))
+    same_code a b (eqb-true a.unit b.unit parts.0) (eqb-true a.code b.code parts.1))
+    (λ a. and_from (a.unit == a.unit) (a.code == a.code) (eq-eqb a.unit a.unit refl) (eq-eqb a.code a.code refl))
 
 pub code_partial : IsPartialOrder (λ a b. (a.unit == b.unit) && (a.code == b.code)) (as_partial_cmp code_order)
 code_partial = partial_order_from_agreeing_total code_order code_total (λ x y. refl) code_ties
@@ -82,15 +86,10 @@ pub name_total : IsTotalOrder name_order
 name_total = on_texts name_text
 
 pub name_ties : (a b : name.Name) → (pointwise nat_eq a.bytes b.bytes && (a.len == b.len)) ≡ is_eq (name_order a b)
-name_ties a b = both_ways (same a b) (is_eq (name_order a b)) (λ e.
+name_ties = equal_ties name_laws (λ a b. pointwise nat_eq a.bytes b.bytes && (a.len == b.len)) (λ a b e.
     let parts = and_parts (pointwise nat_eq a.bytes b.bytes) (a.len == b.len) e in
-    let one = same_parts a b ((bytes_decides a.bytes b.bytes).0 parts.0) (eqb-true a.len b.len parts.1) in
-    ap (λ n. is_eq (name_order a n)) (sym one) ∙ ap is_eq (name_laws.equal_is_same a)) (λ e.
-    let one = name_laws.same_is_equal a b ((Equal-is (name_order a b)).0 e) in
-    ap (same a) (sym one) ∙ and_from (pointwise nat_eq a.bytes a.bytes) (a.len == a.len) ((bytes_decides a.bytes a.bytes).1 refl) (eq-eqb a.len a.len refl))
-  where
-    same : name.Name → name.Name → Bool
-    same x y = pointwise nat_eq x.bytes y.bytes && (x.len == y.len)
+    same_parts a b ((bytes_decides a.bytes b.bytes).0 parts.0) (eqb-true a.len b.len parts.1))
+    (λ a. and_from (pointwise nat_eq a.bytes a.bytes) (a.len == a.len) ((bytes_decides a.bytes a.bytes).1 refl) (eq-eqb a.len a.len refl))
 
 pub name_partial : IsPartialOrder (λ a b. pointwise nat_eq a.bytes b.bytes && (a.len == b.len)) (as_partial_cmp name_order)
 name_partial = partial_order_from_agreeing_total name_order name_total (λ x y. refl) name_ties
